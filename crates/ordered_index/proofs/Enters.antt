@@ -86,6 +86,18 @@ module _ {K : Type 0} (equal : K → K → Bool) (digest : K → ℕ) (laws : La
       (sound-added equal digest keys slots q s sound out absent low)
   entered-sound Round room count out fits sound = sound
 
+  entered-full : (p : Probed) (room : Bool) (count : ℕ) → Outcome equal keys slots q (digest q) p → Sound equal digest keys slots → entered p room count ≡ Full → room ≡ false
+  entered-full (Found n) room count out sound full = let z : _≡_ {A = ℕ} 0 1 = cc in absurd (omega arith)
+  entered-full (Vacant s) true count out sound full = let z : _≡_ {A = ℕ} 0 1 = cc in absurd (omega arith)
+  entered-full (Vacant s) false count out sound full = refl
+  entered-full Round room count out sound full = absurd (no-round equal digest keys slots q (digest q) sound out)
+
+  -- only want of room makes it full
+  pub enter-full : (room : Bool) (count : ℕ) (r : Entered) → r ≡ entered (probe-for equal digest keys slots q) room count
+      → Sound equal digest keys slots → r ≡ Full → room ≡ false
+  enter-full room count r is sound full =
+      entered-full (probe-for equal digest keys slots q) room count (outcome equal keys slots q (digest q)) sound (sym is ∙ full)
+
   -- with one key more the index is sound again
   pub enter-sound : (room : Bool) (count : ℕ) → (room ≡ true → (length keys ≡ count) × (count < limit slots))
       → (r : Entered) → r ≡ entered (probe-for equal digest keys slots q) room count
@@ -121,6 +133,7 @@ module _ {E K : Type 0} (keyed : E → K) (equal : K → K → Bool) (digest : K
       × (slots′ ≡ slots-after (probe-for equal digest keys slots q) r slots)
       × (Sound equal digest keys slots → Located equal keys q (present r))
       × (Sound equal digest keys slots → Sound equal digest (keys-after keys r q) slots′)
+      × (Sound equal digest keys slots → r ≡ Full → enter-room entries count slots ≡ false)
   entering es in-use p is r answers slots′ then =
       let room = enter-room entries count slots in
       let whole : p ≡ probe-for equal digest keys slots q = is ∙ ap (λ xs. probe-for equal digest (map keyed xs) slots q) in-use in
@@ -130,6 +143,7 @@ module _ {E K : Type 0} (keyed : E → K) (equal : K → K → Bool) (digest : K
         written,
         enter-located equal digest laws keys slots q room count r answer,
         enter-sound equal digest laws keys slots q room count room-fits r answer slots′ written,
+        enter-full equal digest laws keys slots q room count r answer,
       )
 
   -- the entry itself is written too

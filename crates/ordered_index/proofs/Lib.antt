@@ -5,3 +5,4 @@ pub mod Places
 pub mod Adds
 pub mod Powers
 pub mod Enters
+pub mod Firsts

@@ -3,3 +3,5 @@ pub mod Slots
 pub mod Sound
 pub mod Probing
 pub mod Entering
+pub mod Keys
+pub mod Firsts

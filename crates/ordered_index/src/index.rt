@@ -1,5 +1,6 @@
 // Finding an entry by its key, entering one more key, and starting from none.
 ghost use mathlib.Core.Path.{_≡_};
+ghost use mathlib.Core.Bool.{false};
 ghost use mathlib.Core.List.{[]};
 ghost use Prim.Native.Nat.{ℕ};
 ghost use lib.ListN.{length, take, replicate};
@@ -64,6 +65,7 @@ pub fn enter<E: Entry>(entries: &[E], count: usize, slots: &mut [u32], key: &E::
     ensures answer { λ r. ⌜ r ≡ entered (probe-for (Of·Key .equal) (Of·Key .digest) (keys-of (E·Entry .keyed) count (now (entries .entry))) (now (slots .entry)) (now (key .entry))) (enter-room (now (entries .entry)) count (now (slots .entry))) count ⌝ }
     ensures slots { λ r. ⌜ now (slots .exit) ≡ slots-after (probe-for (Of·Key .equal) (Of·Key .digest) (keys-of (E·Entry .keyed) count (now (entries .entry))) (now (slots .entry)) (now (key .entry))) r (now (slots .entry)) ⌝ }
     ensures located { λ r. ⌜ (Sound (Of·Key .equal) (Of·Key .digest) (keys-of (E·Entry .keyed) count (now (entries .entry))) (now (slots .entry)) → Located (Of·Key .equal) (keys-of (E·Entry .keyed) count (now (entries .entry))) (now (key .entry)) (present r)) ⌝ }
+    ensures full { λ r. ⌜ (Sound (Of·Key .equal) (Of·Key .digest) (keys-of (E·Entry .keyed) count (now (entries .entry))) (now (slots .entry)) → r ≡ Entered.Full → enter-room (now (entries .entry)) count (now (slots .entry)) ≡ false) ⌝ }
     ensures sound { λ r. ⌜ (Sound (Of·Key .equal) (Of·Key .digest) (keys-of (E·Entry .keyed) count (now (entries .entry))) (now (slots .entry)) → Sound (Of·Key .equal) (Of·Key .digest) (keys-after (keys-of (E·Entry .keyed) count (now (entries .entry))) r (now (key .entry))) (now (slots .exit))) ⌝ }
 {
     match probe(in_use(entries, count), slots, key) {
@@ -85,6 +87,7 @@ pub fn insert<E: Entry>(entries: &mut [E], count: usize, slots: &mut [u32], entr
     ensures entries { λ r. ⌜ now (entries .exit) ≡ entries-after (now (entries .entry)) r entry ⌝ }
     ensures slots { λ r. ⌜ now (slots .exit) ≡ slots-after (probe-for (Of·Key .equal) (Of·Key .digest) (keys-of (E·Entry .keyed) count (now (entries .entry))) (now (slots .entry)) (E·Entry .keyed entry)) r (now (slots .entry)) ⌝ }
     ensures located { λ r. ⌜ (Sound (Of·Key .equal) (Of·Key .digest) (keys-of (E·Entry .keyed) count (now (entries .entry))) (now (slots .entry)) → Located (Of·Key .equal) (keys-of (E·Entry .keyed) count (now (entries .entry))) (E·Entry .keyed entry) (present r)) ⌝ }
+    ensures full { λ r. ⌜ (Sound (Of·Key .equal) (Of·Key .digest) (keys-of (E·Entry .keyed) count (now (entries .entry))) (now (slots .entry)) → r ≡ Entered.Full → insert-room (now (entries .entry)) count (now (slots .entry)) ≡ false) ⌝ }
     ensures sound { λ r. ⌜ (Sound (Of·Key .equal) (Of·Key .digest) (keys-of (E·Entry .keyed) count (now (entries .entry))) (now (slots .entry)) → Sound (Of·Key .equal) (Of·Key .digest) (keys-of (E·Entry .keyed) (count-after count r) (now (entries .exit))) (now (slots .exit))) ⌝ }
 {
     let key = entry.key();

@@ -6,6 +6,7 @@
 mod check;
 mod index;
 mod key;
+mod keys;
 mod probe;
 
 pub use check::agrees;
@@ -16,3 +17,6 @@ pub use index::find;
 pub use index::insert;
 pub use key::Entry;
 pub use key::Key;
+pub use keys::NameKey;
+pub use keys::TypeField;
+pub use keys::TypeFieldKey;

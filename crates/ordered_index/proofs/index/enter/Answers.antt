@@ -27,7 +27,7 @@ returns-then-count-entries g c =
     ] in
     let all = entering (g .E·Entry .keyed) (k .equal) (k .digest) (g .Of·Key·met .lawful) entries count slots (c .args .key .now)
     (c .in-use .result .now) (c .in-use .ensures) _ (c .in-Vacant .ensures tt) _ (sym (cond-false _ _ _ none)) _ refl in
-    record { answer = all .0; slots = all .1; located = all .2; sound = all .3 }
+    record { answer = all .0; slots = all .1; located = all .2; sound = all .3; full = all .4 }
 
 pub index-slots-s : need.index-slots-s
 index-slots-s g c =
@@ -44,14 +44,14 @@ returns-in-Found g c =
     let k = g .Of·Key in
     let all = entering (g .E·Entry .keyed) (k .equal) (k .digest) (g .Of·Key·met .lawful) (c .args .entries .now) (c .args .count) (c .args .slots .now) (c .args .key .now)
     (c .in-use .result .now) (c .in-use .ensures) _ (c .in-Found .ensures tt) _ refl _ refl in
-    record { answer = all .0; slots = all .1; located = all .2; sound = all .3 }
+    record { answer = all .0; slots = all .1; located = all .2; sound = all .3; full = all .4 }
 
 pub returns-in-Round : need.returns-in-Round
 returns-in-Round g c =
     let k = g .Of·Key in
     let all = entering (g .E·Entry .keyed) (k .equal) (k .digest) (g .Of·Key·met .lawful) (c .args .entries .now) (c .args .count) (c .args .slots .now) (c .args .key .now)
     (c .in-use .result .now) (c .in-use .ensures) _ (c .in-Round .ensures tt) _ refl _ refl in
-    record { answer = all .0; slots = all .1; located = all .2; sound = all .3 }
+    record { answer = all .0; slots = all .1; located = all .2; sound = all .3; full = all .4 }
 
 pub returns-else-count-limit-of : need.returns-else-count-limit-of
 returns-else-count-limit-of g c =
@@ -63,4 +63,4 @@ returns-else-count-limit-of g c =
     and-from _ _ (le-leb count (length entries) (c .if-count-entries .left)) (lt-ltb count (limit slots) (omega (arith, c .limit-of .ensures, c .if-count-limit-of .left))) in
     let all = entering (g .E·Entry .keyed) (k .equal) (k .digest) (g .Of·Key·met .lawful) entries count slots (c .args .key .now)
     (c .in-use .result .now) (c .in-use .ensures) _ (c .in-Vacant .ensures tt) _ (sym (cond-true _ _ _ room)) _ refl in
-    record { answer = all .0; slots = all .1; located = all .2; sound = all .3 }
+    record { answer = all .0; slots = all .1; located = all .2; sound = all .3; full = all .4 }

@@ -1,0 +1,50 @@
+use mathlib.Core.Path.{_≡_, refl, sym, ap, subst, _∙_}
+use mathlib.Core.List.{List, map}
+use Prim.Native.Nat.{ℕ, _+_, _-_, _<_}
+use native.Mathlib.Omega.{arith}
+use lib.ListN.{length}
+use Rattle.ordered_index.specs.Sound.{Sound}
+use Rattle.ordered_index.specs.Keys.{same-name, name-hash}
+use Rattle.ordered_index.proofs.Firsts.{keys-all}
+use Rattle.table_schema.specs.declared.fault.SchemaFault.the-variants.{InTypes}
+use Rattle.table_schema.specs.Keys.{type-key}
+use Rattle.table_schema.specs.Verdict.{type-fault-at, first-fault}
+use Rattle.table_schema.proofs.Steps.{fault-next, fault-here, fault-none, limit-is}
+use Rattle.table_schema.proofs.check.index_types.Needs as need
+
+pub loop-i-holds : need.loop-i-holds
+loop-i-holds c = (c .pre .fresh, ap (first-fault InTypes (type-fault-at (c .args .types .now)) 0) (omega arith))
+
+pub enter-type-requires : need.enter-type-requires
+enter-type-requires c κs =
+    record {
+      inside = c .loop-i-test .taken;
+      room = omega (arith, limit-is (c .loop-i .slots) 2048 (c .loop-i .kept .slots ∙ c .pre .size), c .pre .few);
+      sound = c .loop-i .inv .0;
+    }
+
+pub returns-in-Some : need.returns-in-Some
+returns-in-Some c =
+    let types = c .args .types .now in
+    let i = c .loop-i .i in
+    record {
+      fault = sym (fault-here InTypes (type-fault-at types) i (length types - i) (length types - (i + 1)) (c .in-Some .fault) (omega arith) (sym (c .in-Some .ensures tt .fault))) ∙ c .loop-i .inv .1;
+      sound = tt;
+    }
+
+pub loop-i-again : need.loop-i-again
+loop-i-again c =
+    let types = c .args .types .now in
+    let i = c .loop-i .i in
+    let told = c .in-rest .ensures tt in
+    (told .sound
+    , sym (fault-next InTypes (type-fault-at types) i (length types - i) (length types - (i + 1)) (omega arith) (sym (told .fault))) ∙ c .loop-i .inv .1)
+
+pub returns : need.returns
+returns c =
+    let types = c .args .types .now in
+    let i = c .loop-i .i in
+    record {
+      fault = sym (fault-none InTypes (type-fault-at types) i (length types - i) (omega arith)) ∙ c .loop-i .inv .1;
+      sound = subst (λ (keys : List ℕ). Sound same-name name-hash keys (c .loop-i .slots)) (keys-all type-key types i (c .loop-i-test .left)) (c .loop-i .inv .0);
+    }

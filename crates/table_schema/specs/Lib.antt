@@ -1,0 +1,5 @@
+-- The definitions that the contracts of the crate cite.
+pub mod Keys
+pub mod Faults
+pub mod Meaning
+pub mod Verdict

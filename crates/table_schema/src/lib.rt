@@ -1,0 +1,14 @@
+// The table schema: types and fields as rows, checked once and then found through an ordered index.
+//
+// `index_rows` checks the rows and indexes them in slots that the caller lends; `TableSchema::new` does the same in
+// memory of its own, keeps a copy of the rows, and answers as a schema.
+mod check;
+mod fault;
+mod rows;
+
+pub use fault::MakeFault;
+pub use fault::RowFault;
+pub use fault::SchemaFault;
+pub use rows::FieldRow;
+pub use rows::SchemaRows;
+pub use rows::TypeRow;
