@@ -40,11 +40,11 @@ located-first equal keys q None absent = sym (first-none (λ k. equal k q) keys 
 located-first equal keys q (Some n) only =
     ap Some (omega arith)
     ∙ sym (first-some (λ k. equal k q) keys 0 n (only .stands .inside) (only .stands .equals)
-        (λ m d low.
-            ⊎-elim
-              (λ same. let at = only .only m d (omega (arith, only .stands .inside)) same in absurd (omega arith))
-              (λ differs. differs)
-              (cases-bool (equal (getD keys m d) q))))
+    (λ m d low.
+    ⊎-elim
+    (λ same. let at = only .only m d (omega (arith, only .stands .inside)) same in absurd (omega arith))
+    (λ differs. differs)
+    (cases-bool (equal (getD keys m d) q))))
 
 -- whether a key came before, as the index of the entries before tells it
 pub came-before : {E K : Type 0} (keyed : E → K) (equal : K → K → Bool) (count : ℕ) (entries : List E) (q : K) (r : Option ℕ)

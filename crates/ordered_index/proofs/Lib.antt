@@ -6,3 +6,4 @@ pub mod Adds
 pub mod Powers
 pub mod Enters
 pub mod Firsts
+pub mod Laws

@@ -77,7 +77,7 @@ fresh equal digest slots size k power all =
     let both = and-parts (eqb (length slots) size) (zeros slots) all in
     let long : length slots ≡ size = eqb-true (length slots) size (both .0) in
     sound-none equal digest slots (k, long ∙ power)
-      (λ i low. ap (λ xs. getD xs i 0) (zeros-all slots (both .1)) ∙ getD-replicate (length slots) i 0 0 low)
+    (λ i low. ap (λ xs. getD xs i 0) (zeros-all slots (both .1)) ∙ getD-replicate (length slots) i 0 0 low)
 
 -- emptied again they are as they were
 pub emptied : (slots now : List ℕ) (size n : ℕ) → empty-index size slots ≡ true → n ≡ length slots → now ≡ replicate n 0 → now ≡ slots

@@ -3,3 +3,5 @@ pub mod Keys
 pub mod Faults
 pub mod Meaning
 pub mod Verdict
+pub mod Kept
+pub mod Table

@@ -30,8 +30,8 @@ abbrev pub type-fault : List TypeRow → TypeRow → Option RowFault
 type-fault before row =
     cond (eqb (row .name) 0) (Some NameMissing)
     (cond (isSome (kind-of-number (row .kind)))
-      (cond (known-type before (row .name)) (Some Repeated) None)
-      (Some KindUnknown))
+    (cond (known-type before (row .name)) (Some Repeated) None)
+    (Some KindUnknown))
 
 -- only objects and interfaces own fields
 abbrev pub owns-fields : Option TypeKind → Bool
@@ -48,7 +48,7 @@ abbrev pub field-fault : List TypeRow → List FieldRow → FieldRow → Option 
 field-fault types before row =
     cond (eqb (row .owner) 0 || (eqb (row .name) 0 || eqb (row .inner) 0)) (Some NameMissing)
     (cond (isSome (first-place (owns (row .owner) (row .name)) before 0)) (Some Repeated)
-      (cond (owns-fields (kind-of types (row .owner))) None (Some OwnerUnfit)))
+    (cond (owns-fields (kind-of types (row .owner))) None (Some OwnerUnfit)))
 
 -- the fault of the row at place i of a table, as it stands after the rows before it
 abbrev pub type-fault-at : List TypeRow → ℕ → Option RowFault

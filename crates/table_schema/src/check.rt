@@ -29,8 +29,11 @@ use schema::TypeKind;
 
 // How many types and fields a schema holds, and the slots of the index of each: twice as many.
 pub const MAX_TYPES: usize = 1024;
+
 pub const MAX_FIELDS: usize = 4096;
+
 pub const TYPE_SLOTS: usize = 2048;
+
 pub const FIELD_SLOTS: usize = 8192;
 
 // Whether the slots are an empty index of this size.

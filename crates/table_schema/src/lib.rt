@@ -5,10 +5,14 @@
 mod check;
 mod fault;
 mod rows;
+mod table;
 
+pub use check::index_rows;
 pub use fault::MakeFault;
 pub use fault::RowFault;
 pub use fault::SchemaFault;
 pub use rows::FieldRow;
 pub use rows::SchemaRows;
 pub use rows::TypeRow;
+pub use table::TableSchema;
+pub use table::TableSchemaAnswers;

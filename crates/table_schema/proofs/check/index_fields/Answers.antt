@@ -40,9 +40,10 @@ loop-i-again c =
     let types = c .args .types .now in
     let fields = c .args .fields .now in
     let i = c .loop-i .i in
-    let told = c .in-rest .ensures tt in
-    (told .sound
-    , sym (fault-next InFields (field-fault-at types fields) i (length fields - i) (length fields - (i + 1)) (omega arith) (sym (told .fault))) ∙ c .loop-i .inv .1)
+    let told = c .in-rest .ensures tt in (
+      told .sound,
+      sym (fault-next InFields (field-fault-at types fields) i (length fields - i) (length fields - (i + 1)) (omega arith) (sym (told .fault))) ∙ c .loop-i .inv .1,
+    )
 
 pub returns : need.returns
 returns c =

@@ -36,8 +36,9 @@ returns-in-Some c =
     let fields-empty : empty-index 8192 field-slots ≡ true = sym (c .if-not-is-empty-index-2 .ensures tt) in
     record {
       verdict =
-        ap verdict-of (c .in-Some .ensures tt .fault ∙ sym (cond-true _ _ _ (and-from _ _ types-empty fields-empty)) ∙ sym (cond-false _ _ _ few));
-      slots =
-        (emptied type-slots (c .empty .last .slots) 2048 _ types-empty (c .index-tables .kept .type-slots) (c .empty .ensures .clear)
-        , emptied field-slots (c .empty-in-Some .last .slots) 8192 _ fields-empty (c .index-tables .kept .field-slots) (c .empty-in-Some .ensures .clear));
+          ap verdict-of (c .in-Some .ensures tt .fault ∙ sym (cond-true _ _ _ (and-from _ _ types-empty fields-empty)) ∙ sym (cond-false _ _ _ few));
+      slots = (
+        emptied type-slots (c .empty .last .slots) 2048 _ types-empty (c .index-tables .kept .type-slots) (c .empty .ensures .clear),
+        emptied field-slots (c .empty-in-Some .last .slots) 8192 _ fields-empty (c .index-tables .kept .field-slots) (c .empty-in-Some .ensures .clear),
+      );
     }

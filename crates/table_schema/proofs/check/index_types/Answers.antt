@@ -36,9 +36,10 @@ pub loop-i-again : need.loop-i-again
 loop-i-again c =
     let types = c .args .types .now in
     let i = c .loop-i .i in
-    let told = c .in-rest .ensures tt in
-    (told .sound
-    , sym (fault-next InTypes (type-fault-at types) i (length types - i) (length types - (i + 1)) (omega arith) (sym (told .fault))) ∙ c .loop-i .inv .1)
+    let told = c .in-rest .ensures tt in (
+      told .sound,
+      sym (fault-next InTypes (type-fault-at types) i (length types - i) (length types - (i + 1)) (omega arith) (sym (told .fault))) ∙ c .loop-i .inv .1,
+    )
 
 pub returns : need.returns
 returns c =

@@ -16,7 +16,7 @@ returns-then-s-ne0 c =
     let slots = c .args .slots .now in
     let i = c .loop-s .s-index in
     let none : zeros slots ≡ false =
-        sym (c .loop-s .inv) ∙ at-drop-more zeros slots i 0 (c .loop-s-test .taken) ∙ and-left _ _ (ne-eqb _ _ (c .if-s-ne0 .taken)) in
+    sym (c .loop-s .inv) ∙ at-drop-more zeros slots i 0 (c .loop-s-test .taken) ∙ and-left _ _ (ne-eqb _ _ (c .if-s-ne0 .taken)) in
     sym (and-right _ _ none)
 
 pub loop-s-again : need.loop-s-again
@@ -24,7 +24,7 @@ loop-s-again c =
     let slots = c .args .slots .now in
     let i = c .loop-s .s-index in
     sym (at-drop-more zeros slots i 0 (c .loop-s-test .taken)
-        ∙ ap (λ t. t && zeros (drop (i + 1) slots)) (eq-eqb _ _ (c .if-s-ne0 .left)))
+    ∙ ap (λ t. t && zeros (drop (i + 1) slots)) (eq-eqb _ _ (c .if-s-ne0 .left)))
     ∙ c .loop-s .inv
 
 pub returns : need.returns
