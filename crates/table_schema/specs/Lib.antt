@@ -5,3 +5,4 @@ pub mod Meaning
 pub mod Verdict
 pub mod Kept
 pub mod Table
+pub mod Original
