@@ -18,14 +18,14 @@ use Rattle.ordered_index.specs.Firsts.{first-place}
 use Rattle.schema.specs.declared.answers.FieldLookupError.the-variants.{NoSuchType}
 use Rattle.schema.specs.Meta.{defined}
 use Rattle.table_schema.specs.declared.rows.TypeRow.{TypeRow}
-use Rattle.table_schema.specs.declared.fault.RowFault.{RowFault}
 use Rattle.table_schema.specs.declared.fault.RowFault.the-variants.{NameMissing, Repeated, OwnerUnfit}
 use Rattle.table_schema.specs.declared.fault.SchemaFault.{SchemaFault}
 use Rattle.table_schema.specs.declared.fault.SchemaFault.the-variants.{OverLimit, SlotsUnfit, InFields}
 use Rattle.table_schema.specs.Keys.{field-key, row-key, entry-key}
 use Rattle.table_schema.specs.Meaning.{no-field, named, owns, known-type, kind-there, kind-of, field-there, field-of}
-use Rattle.table_schema.specs.Verdict.{owns-fields, field-fault-at, at-row, first-fault, types-fault, fields-fault, or-else, rows-fault, over-limit, empty-index, verdict-of, index-fault}
+use Rattle.table_schema.specs.Verdict.{owns-fields, field-fault-at, types-fault, fields-fault, rows-fault, over-limit, empty-index, verdict-of, index-fault}
 use Rattle.table_schema.specs.Kept.{no-entry, holds, entry-there, kept-field, entry-of, entries-from, Owners-known}
+use Rattle.refusal.proofs.Firsts.{no-fault, or-else-none}
 use Rattle.table_schema.proofs.Founds.{first-at}
 
 entries-push : (k : ℕ) (rows : List FieldRow) (row : FieldRow) → entries-from k (rows ++ row ∷ []) ≡ entries-from k rows ++ entry-of (k + length rows + 1) row ∷ []
@@ -74,22 +74,6 @@ kept-means types rows t f =
     ap (λ at. cond (known-type types t) (entry-there (entries-from 0 rows) at) (Err NoSuchType)) (entries-first 0 0 t f rows)
     ∙ ap (λ x. cond (known-type types t) x (Err NoSuchType)) (there-same rows t f (first-place (owns t f) rows 0) refl)
 
-or-else-none : (a b : Option SchemaFault) → or-else a b ≡ None → b ≡ None
-or-else-none None b is = is
-or-else-none (Some x) b is = let z : _≡_ {A = ℕ} 0 1 = cc in absurd (omega arith)
-
-at-row-none : (told : RowFault → ℕ → SchemaFault) (i : ℕ) (f : Option RowFault) (rest : Option SchemaFault) → at-row told i f rest ≡ None → (f ≡ None) × (rest ≡ None)
-at-row-none told i None rest is = (refl, is)
-at-row-none told i (Some x) rest is = let z : _≡_ {A = ℕ} 0 1 = cc in absurd (omega arith)
-
--- where there is no first fault, no row has one
-no-fault : (told : RowFault → ℕ → SchemaFault) (fault : ℕ → Option RowFault) (i left : ℕ) → first-fault told fault i left ≡ None → (m : ℕ) → m < left → fault (i + m) ≡ None
-no-fault told fault i zero none m low = absurd (omega arith)
-no-fault told fault i (suc left) none zero low =
-    ap fault (omega arith) ∙ at-row-none told i (fault i) (first-fault told fault (i + 1) left) none .0
-no-fault told fault i (suc left) none (suc m) low =
-    ap fault (omega arith) ∙ no-fault told fault (i + 1) left (at-row-none told i (fault i) (first-fault told fault (i + 1) left) none .1) m (omega arith)
-
 last-none : (a b c : Bool) → cond a (Some NameMissing) (cond b (Some Repeated) (cond c None (Some OwnerUnfit))) ≡ None → c ≡ true
 last-none true b c is = let z : _≡_ {A = ℕ} 0 1 = cc in absurd (omega arith)
 last-none false true c is = let z : _≡_ {A = ℕ} 0 1 = cc in absurd (omega arith)
@@ -106,7 +90,7 @@ owners-known types rows none i low =
     let inside : i < length rows = omega (arith, entries-length 0 rows) in
     let row = getD rows i no-field in
     let fine : field-fault-at types rows i ≡ None =
-    ap (field-fault-at types rows) (omega arith) ∙ no-fault InFields (field-fault-at types rows) 0 (length rows) (or-else-none (types-fault types) (fields-fault types rows) none) i inside in
+    ap (field-fault-at types rows) (omega arith) ∙ no-fault InFields (field-fault-at types rows) 0 (length rows) (or-else-none (types-fault types) (fields-fault types rows) none .1) i inside in
     let owner : getD (entries-from 0 rows) i no-entry .key .owner ≡ row .owner = ap (λ e. e .key .owner) (entry-at 0 rows i inside) in
     ap (known-type types) owner ∙ kind-known types (first-place (named (row .owner)) types 0) (last-none (eqb (row .owner) 0 || (eqb (row .name) 0 || eqb (row .inner) 0)) (isSome (first-place (owns (row .owner) (row .name)) (take i rows) 0)) (owns-fields (kind-of types (row .owner))) fine)
 

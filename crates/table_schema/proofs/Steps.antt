@@ -19,25 +19,9 @@ use Rattle.ordered_index.proofs.Rounds.{sound-none}
 use Rattle.schema.specs.Numbers.{kind-of-number}
 use Rattle.table_schema.specs.declared.rows.TypeRow.{TypeRow}
 use Rattle.table_schema.specs.declared.rows.FieldRow.{FieldRow}
-use Rattle.table_schema.specs.declared.fault.RowFault.{RowFault}
 use Rattle.table_schema.specs.declared.fault.RowFault.the-variants.{NameMissing, KindUnknown, Repeated, OwnerUnfit}
-use Rattle.table_schema.specs.declared.fault.SchemaFault.{SchemaFault}
 use Rattle.table_schema.specs.Meaning.{named, owns, known-type, kind-of}
-use Rattle.table_schema.specs.Verdict.{type-fault, field-fault, owns-fields, at-row, first-fault, zeros, empty-index}
-
-module _ (told : RowFault → ℕ → SchemaFault) (fault : ℕ → Option RowFault) where
-  -- a row without a fault hands on to the next
-  pub fault-next : (i left rest : ℕ) → left ≡ suc rest → fault i ≡ None → first-fault told fault i left ≡ first-fault told fault (i + 1) rest
-  fault-next i left rest more none =
-      ap (first-fault told fault i) more ∙ ap (λ f. at-row told i f (first-fault told fault (i + 1) rest)) none
-
-  -- a row with a fault is the first
-  pub fault-here : (i left rest : ℕ) (f : RowFault) → left ≡ suc rest → fault i ≡ Some f → first-fault told fault i left ≡ Some (told f (i + 1))
-  fault-here i left rest f more here =
-      ap (first-fault told fault i) more ∙ ap (λ x. at-row told i x (first-fault told fault (i + 1) rest)) here
-
-  pub fault-none : (i left : ℕ) → left ≡ 0 → first-fault told fault i left ≡ None
-  fault-none i left none = ap (first-fault told fault i) none
+use Rattle.table_schema.specs.Verdict.{type-fault, field-fault, owns-fields, zeros, empty-index}
 
 -- a type with a name and a kind is at fault exactly where it came before
 pub type-fault-last : (before : List TypeRow) (row : TypeRow) (b : Bool) → eqb (row .name) 0 ≡ false → isSome (kind-of-number (row .kind)) ≡ true

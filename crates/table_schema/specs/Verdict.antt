@@ -1,7 +1,7 @@
 -- Which rows are no schema: each row's own fault, and the first of all.
 use mathlib.Core.Bool.{Bool, true, false, cond, _&&_, _||_}
 use mathlib.Core.List.{List, [], _∷_}
-use Prim.Native.Nat.{ℕ, zero, suc, _+_}
+use Prim.Native.Nat.{ℕ}
 use lib.Dec.{eqb, ltb}
 use lib.ListN.{length, getD, take}
 use Rattle.std.specs.Options.{isSome}
@@ -10,6 +10,7 @@ use Rattle.std.specs.declared.option.Option.the-variants.{Some, None}
 use Rattle.std.specs.declared.result.Result.{Result}
 use Rattle.std.specs.declared.result.Result.the-variants.{Ok, Err}
 use Rattle.ordered_index.specs.Firsts.{first-place}
+use Rattle.refusal.specs.Firsts.{first-fault, or-else}
 use Rattle.schema.specs.declared.answers.TypeKind.{TypeKind}
 use Rattle.schema.specs.declared.answers.TypeKind.the-variants.{Scalar, Object, Interface, Union, Enum, InputObject}
 use Rattle.schema.specs.Numbers.{kind-of-number}
@@ -57,26 +58,11 @@ type-fault-at types i = type-fault (take i types) (getD types i no-type)
 abbrev pub field-fault-at : List TypeRow → List FieldRow → ℕ → Option RowFault
 field-fault-at types fields i = field-fault types (take i fields) (getD fields i no-field)
 
--- the fault of the row i, where it has one, told with the row's place plus 1; else what the rows after it come to
-abbrev pub at-row : (RowFault → ℕ → SchemaFault) → ℕ → Option RowFault → Option SchemaFault → Option SchemaFault
-at-row told i None rest = rest
-at-row told i (Some fault) rest = Some (told fault (i + 1))
-
--- the first fault among so many rows from the row i on
-abbrev pub first-fault : (RowFault → ℕ → SchemaFault) → (ℕ → Option RowFault) → ℕ → ℕ → Option SchemaFault
-first-fault told fault i zero = None
-first-fault told fault i (suc left) = at-row told i (fault i) (first-fault told fault (i + 1) left)
-
 abbrev pub types-fault : List TypeRow → Option SchemaFault
 types-fault types = first-fault InTypes (type-fault-at types) 0 (length types)
 
 abbrev pub fields-fault : List TypeRow → List FieldRow → Option SchemaFault
 fields-fault types fields = first-fault InFields (field-fault-at types fields) 0 (length fields)
-
--- the first of two that is a fault
-abbrev pub or-else : Option SchemaFault → Option SchemaFault → Option SchemaFault
-or-else None later = later
-or-else (Some fault) later = Some fault
 
 -- types in order, then fields in order
 abbrev pub rows-fault : List TypeRow → List FieldRow → Option SchemaFault

@@ -8,9 +8,11 @@ use Rattle.ordered_index.specs.Sound.{Sound}
 use Rattle.ordered_index.specs.Keys.{same-field, field-hash}
 use Rattle.ordered_index.proofs.Firsts.{keys-all}
 use Rattle.table_schema.specs.declared.fault.SchemaFault.the-variants.{InFields}
+use Rattle.refusal.specs.Firsts.{first-fault}
+use Rattle.refusal.proofs.Firsts.{fault-next, fault-here, fault-none}
 use Rattle.table_schema.specs.Keys.{row-key}
-use Rattle.table_schema.specs.Verdict.{field-fault-at, first-fault}
-use Rattle.table_schema.proofs.Steps.{fault-next, fault-here, fault-none, limit-is}
+use Rattle.table_schema.specs.Verdict.{field-fault-at}
+use Rattle.table_schema.proofs.Steps.{limit-is}
 use Rattle.table_schema.proofs.check.index_fields.Needs as need
 
 pub loop-i-holds : need.loop-i-holds

@@ -4,8 +4,9 @@ use lib.ListN.{length}
 use Rattle.ordered_index.specs.Sound.{Sound, keys-of}
 use Rattle.ordered_index.specs.Keys.{same-field, field-hash}
 use Rattle.table_schema.specs.declared.fault.SchemaFault.the-variants.{InFields}
+use Rattle.refusal.specs.Firsts.{first-fault}
 use Rattle.table_schema.specs.Keys.{row-key}
-use Rattle.table_schema.specs.Verdict.{field-fault-at, first-fault, fields-fault}
+use Rattle.table_schema.specs.Verdict.{field-fault-at, fields-fault}
 use Rattle.table_schema.proofs.check.index_fields.Given as given
 
 -- the rows so far are indexed, and the rows to come have the first fault
