@@ -14,7 +14,7 @@ use crate::probe::Probed;
 use crate::probe::probe;
 
 // What entering a key comes to: its place where it was there, its new place, or no place left.
-#[derive(Clone, Copy, PartialEq, Eq, Debug)]
+#[derive(Clone, Copy)]
 pub enum Entered {
     Present(usize),
     Added(usize),

@@ -20,7 +20,7 @@ pub impl Key for u32 as NameKey {
 }
 
 /// A field of a type: the type that owns it and its name there.
-#[derive(Clone, Copy, PartialEq, Eq, Debug)]
+#[derive(Clone, Copy)]
 pub struct TypeField {
     pub owner: u32,
     pub field: u32,

@@ -11,9 +11,6 @@ mod probe;
 
 pub use check::agrees;
 pub use index::Entered;
-pub use index::EnteredDebug;
-pub use index::EnteredEq;
-pub use index::EnteredPartialEq;
 pub use index::empty;
 pub use index::enter;
 pub use index::find;
@@ -22,7 +19,4 @@ pub use key::Entry;
 pub use key::Key;
 pub use keys::NameKey;
 pub use keys::TypeField;
-pub use keys::TypeFieldDebug;
-pub use keys::TypeFieldEq;
 pub use keys::TypeFieldKey;
-pub use keys::TypeFieldPartialEq;

@@ -9,7 +9,7 @@ use crate::key::Entry;
 use crate::key::Key;
 
 // Where a probe ends: at the key's place, at an empty slot, or with every slot looked at.
-#[derive(Clone, Copy, PartialEq, Eq, Debug)]
+#[derive(Clone, Copy)]
 pub enum Probed {
     Found(usize),
     Vacant(usize),

@@ -20,7 +20,7 @@ module _ {F G : Type 0} (told : F → ℕ → G) (fault : ℕ → Option F) wher
   pub fault-none : (i left : ℕ) → left ≡ 0 → first-fault told fault i left ≡ None
   fault-none i left none = ap (first-fault told fault i) none
 
-  at-row-none : (i : ℕ) (f : Option F) (rest : Option G) → at-row told i f rest ≡ None → (f ≡ None) × (rest ≡ None)
+  pub at-row-none : (i : ℕ) (f : Option F) (rest : Option G) → at-row told i f rest ≡ None → (f ≡ None) × (rest ≡ None)
   at-row-none i None rest is = (refl, is)
   at-row-none i (Some x) rest is = let z : _≡_ {A = ℕ} 0 1 = cc in absurd (omega arith)
 

@@ -8,8 +8,6 @@ use crate::answers::FieldLookupError;
 use crate::answers::FieldLookupErrorDebug;
 use crate::answers::FieldLookupErrorPartialEq;
 use crate::answers::OperationType;
-use crate::answers::OperationTypeDebug;
-use crate::answers::OperationTypePartialEq;
 use crate::answers::TypeKind;
 use crate::answers::TypeKindDebug;
 use crate::answers::TypeKindPartialEq;
@@ -17,7 +15,7 @@ use crate::interface::Schema;
 use crate::names::Name;
 
 /// A question to a schema.
-#[derive(Clone, Copy, PartialEq, Eq, Debug)]
+#[derive(Clone, Copy)]
 pub enum Question {
     /// Where operations of this type start.
     Root(OperationType),

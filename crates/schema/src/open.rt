@@ -22,7 +22,7 @@ const ANY_FIELD: FieldDefinition = FieldDefinition {
 };
 
 /// The schema that knows everything.
-#[derive(Clone, Copy, PartialEq, Eq, Debug)]
+#[derive(Clone, Copy)]
 pub struct OpenSchema;
 
 pub impl Schema for OpenSchema as OpenSchemaAnswers {

@@ -7,7 +7,7 @@ use refusal::Refusal;
 use std::alloc::AllocError;
 
 /// What is wrong with a row.
-#[derive(Clone, Copy, PartialEq, Eq, Debug)]
+#[derive(Clone, Copy)]
 pub enum RowFault {
     /// A name that is 0.
     NameMissing,
@@ -34,7 +34,7 @@ impl RowFault {
 }
 
 /// Why rows are refused. A row is told by its place plus 1.
-#[derive(Clone, Copy, PartialEq, Eq, Debug)]
+#[derive(Clone, Copy)]
 pub enum SchemaFault {
     /// More types or more fields than a schema holds.
     OverLimit,
@@ -66,7 +66,7 @@ impl SchemaFault {
 }
 
 /// Why no schema was made: its rows are refused, or there was no memory.
-#[derive(Clone, Copy, PartialEq, Eq, Debug)]
+#[derive(Clone, Copy)]
 pub enum MakeFault {
     Rows(SchemaFault),
     NoMemory,

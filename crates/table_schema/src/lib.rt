@@ -11,17 +11,8 @@ mod table;
 
 pub use check::index_rows;
 pub use fault::MakeFault;
-pub use fault::MakeFaultDebug;
-pub use fault::MakeFaultEq;
-pub use fault::MakeFaultPartialEq;
 pub use fault::RowFault;
-pub use fault::RowFaultDebug;
-pub use fault::RowFaultEq;
-pub use fault::RowFaultPartialEq;
 pub use fault::SchemaFault;
-pub use fault::SchemaFaultDebug;
-pub use fault::SchemaFaultEq;
-pub use fault::SchemaFaultPartialEq;
 pub use original::schema_with_meta_fields;
 pub use rows::FieldRow;
 pub use rows::FieldRowEntry;

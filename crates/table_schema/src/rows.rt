@@ -7,14 +7,14 @@ use ordered_index::TypeFieldKey;
 use schema::FieldDefinition;
 
 /// A type: its name and the number of its kind, 1 to 6.
-#[derive(Clone, Copy, PartialEq, Eq, Debug)]
+#[derive(Clone, Copy)]
 pub struct TypeRow {
     pub name: u32,
     pub kind: u32,
 }
 
 /// A field: the type that owns it, its name there, and the named type inside its lists and non-nulls.
-#[derive(Clone, Copy, PartialEq, Eq, Debug)]
+#[derive(Clone, Copy)]
 pub struct FieldRow {
     pub owner: u32,
     pub name: u32,

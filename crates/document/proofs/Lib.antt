@@ -1,0 +1,4 @@
+pub mod Steps
+pub mod Documents
+pub mod Sets
+pub mod Keys
