@@ -1,4 +1,4 @@
-// Reads schemas and questions to them from the standard input, and prints the answers.
+// Reads schemas, questions to them and documents from the standard input, and prints the answers and the outlines.
 use printout::printout;
 use std::io;
 use std::io::BufReader;

@@ -1,12 +1,16 @@
-// Gathers the lines of a text into sections: each has a schema and the questions to it.
+// Gathers the lines of a text into sections: each has a schema, the questions to it, and documents.
 ghost use mathlib.Core.Path.{_≡_};
 ghost use Rattle.std.specs.Of.Vec.{vec-items};
+use document::DefinitionRow;
+use document::Document;
+use document::SelectionRow;
 use schema::Question;
 use std::alloc::AllocError;
 use std::alloc::Global;
 use table_schema::FieldRow;
 use table_schema::SchemaRows;
 use table_schema::TypeRow;
+use text_input::DocumentHead;
 use text_input::Line;
 use text_input::LineReader;
 use text_input::NameTable;
@@ -53,15 +57,43 @@ impl TableText {
     }
 }
 
-/// A schema and the questions to it.
+/// The rows of a document as they were read.
+#[derive(Drop)]
+pub struct DocumentText {
+    pub head: DocumentHead,
+    pub definitions: Vec<DefinitionRow>,
+    pub rows: Vec<SelectionRow>,
+}
+
+impl DocumentText {
+    /// All rows, lent.
+    pub fn handed(&self) -> Document<'_>
+        ensures definitions { λ r. ⌜ now (r .definitions) ≡ vec-items (now (self .entry) .definitions) ⌝ }
+        ensures rows { λ r. ⌜ now (r .rows) ≡ vec-items (now (self .entry) .rows) ⌝ }
+    {
+        Document {
+            definitions: self.definitions.as_slice(),
+            rows: self.rows.as_slice(),
+        }
+    }
+
+    /// Whether all rows were read that the first line counts.
+    pub fn is_complete(&self) -> bool {
+        self.definitions.len() == self.head.definitions as usize
+            && self.rows.len() == self.head.rows as usize
+    }
+}
+
+/// A schema, the questions to it, and documents.
 #[derive(Drop)]
 pub struct Section {
     pub schema: SchemaText,
     pub questions: Vec<Question>,
+    pub documents: Vec<DocumentText>,
 }
 
 impl Section {
-    /// A section with no rows and no questions yet.
+    /// A section with no rows, questions or documents yet.
     fn new(heap: Global, head: SchemaHead) -> Section {
         let schema = match head {
             SchemaHead::Open => SchemaText::Open,
@@ -74,6 +106,7 @@ impl Section {
         Section {
             schema,
             questions: Vec::new(heap),
+            documents: Vec::new(heap),
         }
     }
 
@@ -158,6 +191,34 @@ fn add_line(heap: Global, sections: &mut Vec<Section>, line: Line<'_>) -> Result
             section.questions.push(question)?;
             Ok(())
         }
+        Line::Document(_) | Line::Definition(_) | Line::Row(_) => {
+            add_to_documents(heap, &mut section.documents, line)
+        }
         Line::Schema(_) | Line::Name(_, _) | Line::Blank => Ok(()),
     }
+}
+
+/// Adds what the line says to the last document, or begins a new one.
+fn add_to_documents(
+    heap: Global,
+    documents: &mut Vec<DocumentText>,
+    line: Line<'_>,
+) -> Result<(), AllocError> {
+    if let Line::Document(head) = line {
+        documents.push(DocumentText {
+            head,
+            definitions: Vec::new(heap),
+            rows: Vec::new(heap),
+        })?;
+        return Ok(());
+    }
+    let Some(document) = documents.last_mut() else {
+        return Ok(());
+    };
+    match line {
+        Line::Definition(row) => document.definitions.push(row)?,
+        Line::Row(row) => document.rows.push(row)?,
+        _ => {}
+    }
+    Ok(())
 }

@@ -1,8 +1,10 @@
 // The whole printout of a text, section by section.
 use crate::answers::Answered;
 use crate::answers::AnsweredDisplay;
+use crate::documents::add_documents;
 use crate::headings::TableHeading;
 use crate::headings::TableHeadingDisplay;
+use crate::lines::add_line;
 use crate::refusals::Refused;
 use crate::refusals::RefusedDisplay;
 use crate::sections::Reading;
@@ -17,7 +19,6 @@ use schema::Schema;
 use schema::ask;
 use std::alloc::AllocError;
 use std::alloc::Global;
-use std::fmt::Display;
 use table_schema::MakeFault;
 use table_schema::SchemaFault;
 use table_schema::TableSchemaAnswers;
@@ -28,8 +29,8 @@ use text_input::LineReader;
 use text_input::NameTable;
 use text_input::TextErrorDisplay;
 
-/// The printout of the text: each schema with its questions and their answers, and at the end what is wrong with the
-/// text, if anything is. Where something is, the rest of the text is not read.
+/// The printout of the text: each schema with the answers to its questions and with its documents, and at the end what
+/// is wrong with the text, if anything is. Where something is, the rest of the text is not read.
 pub fn printout(heap: Global, input: &str) -> Result<String, AllocError> {
     let mut reading = Reading::new(heap, LineReader::new(heap)?);
     reading.read(heap, input)?;
@@ -54,7 +55,7 @@ fn add_ending(out: &mut String, reading: &Reading<'_>) -> Result<(), AllocError>
     }
 }
 
-/// Adds a section: the heading, and the answers or the refusal.
+/// Adds a section: the heading, the answers or the refusal, and the documents.
 fn add_section<'n>(
     heap: Global,
     out: &mut String,
@@ -74,6 +75,7 @@ fn add_section<'n>(
             add_table(heap, out, names, table, questions)?;
         }
     }
+    add_documents(heap, out, names, section.documents.as_slice())?;
     add_line(out, "")
 }
 
@@ -116,18 +118,10 @@ fn add_answers<S: Schema>(
 
 /// Adds why the rows are refused, and how many questions are therefore passed over.
 fn add_refusal(out: &mut String, fault: SchemaFault, questions: usize) -> Result<(), AllocError> {
-    add_line(out, Refused(fault))?;
+    add_line(out, Refused::Schema(fault))?;
     if questions == 0 {
         return Ok(());
     }
     let questions = Counted(questions as u64, "question");
     add_line(out, format_args!("Passed over: {questions} to it."))
-}
-
-/// Adds a line.
-fn add_line<D: Display + Drop>(out: &mut String, line: D) -> Result<(), AllocError> {
-    match writeln!(out, "{line}") {
-        Ok(()) => Ok(()),
-        Err(_) => Err(AllocError),
-    }
 }

@@ -8,6 +8,9 @@ pub enum Keyword {
     Field,
     Name,
     Ask,
+    Document,
+    Definition,
+    Row,
 }
 
 impl Keyword {
@@ -19,6 +22,9 @@ impl Keyword {
             "field" => Some(Keyword::Field),
             "name" => Some(Keyword::Name),
             "ask" => Some(Keyword::Ask),
+            "doc" => Some(Keyword::Document),
+            "def" => Some(Keyword::Definition),
+            "row" => Some(Keyword::Row),
             _ => None,
         }
     }
@@ -31,6 +37,9 @@ impl Keyword {
             Keyword::Field => "field",
             Keyword::Name => "name",
             Keyword::Ask => "ask",
+            Keyword::Document => "doc",
+            Keyword::Definition => "def",
+            Keyword::Row => "row",
         }
     }
 
@@ -42,6 +51,11 @@ impl Keyword {
             Keyword::Field => "field OWNER NAME INNER",
             Keyword::Name => "name NUMBER TEXT",
             Keyword::Ask => "ask QUESTION ..",
+            Keyword::Document => "doc STRICT NDEFS NROWS",
+            Keyword::Definition =>
+                "def KIND OPTYPE NAME CONDITION VARIABLES DIRECTIVES LOCATION NAMELOC CONDLOC FIRST END",
+            Keyword::Row =>
+                "row KIND NAME ALIAS CONDITION ARGUMENTS DIRECTIVES LOCATION NAMELOC CONDLOC END",
         }
     }
 }

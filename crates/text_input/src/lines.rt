@@ -3,6 +3,8 @@ use crate::keywords::Keyword;
 use crate::name_table::NameTable;
 use crate::problems::Problem;
 use crate::word_list::Words;
+use document::DefinitionRow;
+use document::SelectionRow;
 use schema::Name;
 use schema::OperationType;
 use schema::Question;
@@ -24,6 +26,12 @@ pub enum Line<'a> {
     Name(Name, &'a str),
     /// A question to the schema.
     Ask(Question),
+    /// A document begins.
+    Document(DocumentHead),
+    /// A definition of the document.
+    Definition(DefinitionRow),
+    /// A selection of the document.
+    Row(SelectionRow),
 }
 
 /// How a schema begins.
@@ -56,6 +64,14 @@ impl TableHead {
     }
 }
 
+/// Whether a document is read strictly, and how many rows of its two tables follow.
+#[derive(Clone, Copy)]
+pub struct DocumentHead {
+    pub strict: bool,
+    pub definitions: u32,
+    pub rows: u32,
+}
+
 /// The line with this keyword.
 pub fn read_line<'a>(
     keyword: Keyword,
@@ -68,6 +84,9 @@ pub fn read_line<'a>(
         Keyword::Field => Ok(Line::Field(read_field(words, names)?)),
         Keyword::Name => read_name(words, names),
         Keyword::Ask => Ok(Line::Ask(read_question(words, names)?)),
+        Keyword::Document => Ok(Line::Document(read_document(words)?)),
+        Keyword::Definition => Ok(Line::Definition(read_definition(words, names)?)),
+        Keyword::Row => Ok(Line::Row(read_row(words, names)?)),
     }
 }
 
@@ -164,4 +183,84 @@ fn read_operation<'a>(words: &mut Words<'a>) -> Result<OperationType, Problem<'a
         "subscription" | "2" => Ok(OperationType::Subscription),
         word => Err(Problem::UnknownOperation(word)),
     }
+}
+
+/// `STRICT NDEFS NROWS`
+fn read_document<'a>(words: &mut Words<'a>) -> Result<DocumentHead, Problem<'a>> {
+    let mut numbers = [0; 3];
+    words.numbers(&mut numbers)?;
+    let [strict, definitions, rows] = numbers;
+    if strict > 1 {
+        return Err(Problem::UnknownStrictness(strict));
+    }
+    Ok(DocumentHead {
+        strict: strict == 1,
+        definitions,
+        rows,
+    })
+}
+
+/// `KIND OPTYPE NAME CONDITION VARIABLES DIRECTIVES LOCATION NAMELOC CONDLOC FIRST END`
+fn read_definition<'a>(
+    words: &mut Words<'a>,
+    names: &NameTable<'a>,
+) -> Result<DefinitionRow, Problem<'a>> {
+    let kind = words.number()?;
+    let operation_type = words.number()?;
+    let name = words.name(names)?;
+    let condition = words.name(names)?;
+    let mut numbers = [0; 7];
+    words.numbers(&mut numbers)?;
+    let [
+        variables,
+        directives,
+        location,
+        name_location,
+        condition_location,
+        first,
+        end,
+    ] = numbers;
+    Ok(DefinitionRow {
+        kind,
+        operation_type,
+        name,
+        condition,
+        variables,
+        directives,
+        location,
+        name_location,
+        condition_location,
+        first,
+        end,
+    })
+}
+
+/// `KIND NAME ALIAS CONDITION ARGUMENTS DIRECTIVES LOCATION NAMELOC CONDLOC END`
+fn read_row<'a>(words: &mut Words<'a>, names: &NameTable<'a>) -> Result<SelectionRow, Problem<'a>> {
+    let kind = words.number()?;
+    let name = words.name(names)?;
+    let alias = words.name(names)?;
+    let condition = words.name(names)?;
+    let mut numbers = [0; 6];
+    words.numbers(&mut numbers)?;
+    let [
+        arguments,
+        directives,
+        location,
+        name_location,
+        condition_location,
+        end,
+    ] = numbers;
+    Ok(SelectionRow {
+        kind,
+        name,
+        alias,
+        condition,
+        arguments,
+        directives,
+        location,
+        name_location,
+        condition_location,
+        end,
+    })
 }

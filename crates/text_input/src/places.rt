@@ -12,7 +12,7 @@ use std::fmt;
 pub enum Misplaced {
     /// A line that belongs to a schema stands before the first one.
     NoSchemaYet(Keyword),
-    /// A type or a field more than the schema has.
+    /// A row more than the schema or the document has.
     TooManyRows(Keyword),
     /// The line stands where rows are still to come.
     RowsMissing(Keyword, RowsLeft),
@@ -29,10 +29,11 @@ pub impl fmt::Display for Misplaced as MisplacedDisplay {
             }
             Misplaced::TooManyRows(keyword) => {
                 let word = keyword.word();
-                write!(
-                    f,
-                    "a {word} too many: the schema has all that its first line counts"
-                )
+                let counting = match keyword {
+                    Keyword::Definition | Keyword::Row => "no line with doc counts it",
+                    _ => "the schema has all that its first line counts",
+                };
+                write!(f, "a {word} too many: {counting}")
             }
             Misplaced::RowsMissing(keyword, left) => {
                 let word = keyword.word();
@@ -48,8 +49,9 @@ pub impl fmt::Display for Misplaced as MisplacedDisplay {
     }
 }
 
-/// Refuses a line that may not stand where this is left of the schema's rows, or before any schema: first come the
-/// types, then the fields, then the questions or the next schema. A name may be given anywhere.
+/// Refuses a line that may not stand where these rows are left, or before any schema. First come the types, then the
+/// fields, then questions and documents up to the next schema; a document's definitions come first, then its rows. A
+/// name may be given anywhere.
 pub fn check_place(left: Option<RowsLeft>, keyword: Keyword) -> Result<(), Misplaced>
     ensures { λ r. ⌜ isOk r ≡ may-stand keyword left ⌝ }
 {
@@ -62,11 +64,17 @@ pub fn check_place(left: Option<RowsLeft>, keyword: Keyword) -> Result<(), Mispl
     match keyword {
         Keyword::Name => Ok(()),
         Keyword::Type if left.types > 0 => Ok(()),
-        Keyword::Type => Err(Misplaced::TooManyRows(keyword)),
         Keyword::Field if left.types > 0 => Err(Misplaced::RowsMissing(keyword, left)),
         Keyword::Field if left.fields > 0 => Ok(()),
-        Keyword::Field => Err(Misplaced::TooManyRows(keyword)),
-        Keyword::Schema | Keyword::Ask if left.is_complete() => Ok(()),
-        Keyword::Schema | Keyword::Ask => Err(Misplaced::RowsMissing(keyword, left)),
+        Keyword::Definition if left.definitions > 0 => Ok(()),
+        Keyword::Row if left.definitions > 0 => Err(Misplaced::RowsMissing(keyword, left)),
+        Keyword::Row if left.rows > 0 => Ok(()),
+        Keyword::Type | Keyword::Field | Keyword::Definition | Keyword::Row =>
+            Err(Misplaced::TooManyRows(keyword)),
+        Keyword::Schema | Keyword::Ask | Keyword::Document if left.is_complete() => Ok(()),
+        Keyword::Schema | Keyword::Ask | Keyword::Document => Err(Misplaced::RowsMissing(
+            keyword,
+            left,
+        )),
     }
 }

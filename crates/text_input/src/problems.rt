@@ -32,6 +32,8 @@ pub enum Problem<'a> {
     UnknownSchemaKind(u32),
     /// An open schema was given rows or roots.
     OpenWithRows,
+    /// A document is neither strict nor not.
+    UnknownStrictness(u32),
     /// There is no such question.
     UnknownQuestion(&'a str),
     /// There is no such operation.
@@ -80,7 +82,7 @@ pub impl fmt::Display for Problem<'_> as ProblemDisplay {
             Problem::UnknownKeyword(word) => {
                 write!(
                     f,
-                    "'{word}' is no keyword: a line begins with schema, type, field, name or ask"
+                    "'{word}' is no keyword: a line begins with schema, type, field, name, ask, doc, def or row"
                 )
             }
             Problem::TooFewWords(form) => write!(f, "too few words: the line is '{form}'"),
@@ -118,6 +120,12 @@ pub impl fmt::Display for Problem<'_> as ProblemDisplay {
                 f,
                 "the open schema has no rows and no roots of its own: the five numbers after its kind are 0"
             ),
+            Problem::UnknownStrictness(strict) => {
+                write!(
+                    f,
+                    "no document is of the strictness {strict}: 0 is not strict, 1 strict"
+                )
+            }
             Problem::UnknownQuestion(word) => {
                 write!(f, "'{word}' is no question: ask root, known, kind or field")
             }

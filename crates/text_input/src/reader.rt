@@ -4,6 +4,7 @@ ghost use mathlib.Core.Bool.{true};
 ghost use Rattle.text_input.specs.declared.lines.SchemaHead.the-variants.{Open, Table};
 ghost use Rattle.text_input.specs.Places.{complete};
 use crate::keywords::Keyword;
+use crate::lines::DocumentHead;
 use crate::lines::Line;
 use crate::lines::SchemaHead;
 use crate::lines::read_line;
@@ -25,7 +26,7 @@ use std::alloc::Global;
 pub struct LineReader<'a> {
     names: NameTable<'a>,
     lines_read: u64,
-    // What is left of the schema's rows; nothing before the first schema.
+    // What is left of the rows of the schema, or of its last document; nothing before the first schema.
     left: Option<RowsLeft>,
 }
 
@@ -42,11 +43,6 @@ impl<'a> LineReader<'a> {
     /// The names that were given up to here.
     pub fn names(&self) -> &NameTable<'a> {
         &self.names
-    }
-
-    /// The names that were given, when nothing more is read.
-    pub fn into_names(self) -> NameTable<'a> {
-        self.names
     }
 
     /// Reads the next line of the text.
@@ -98,8 +94,11 @@ impl<'a> LineReader<'a> {
     fn note(&mut self, line: Line<'a>) -> Result<(), AllocError> {
         match (line, self.left) {
             (Line::Schema(head), _) => self.left = Some(rows_of(head)),
-            (Line::Type(_), Some(left)) => self.left = Some(left.after_type()),
-            (Line::Field(_), Some(left)) => self.left = Some(left.after_field()),
+            (Line::Document(head), _) => self.left = Some(rows_of_document(head)),
+            (Line::Type(_), Some(left)) => self.left = Some(left.after(Keyword::Type)),
+            (Line::Field(_), Some(left)) => self.left = Some(left.after(Keyword::Field)),
+            (Line::Definition(_), Some(left)) => self.left = Some(left.after(Keyword::Definition)),
+            (Line::Row(_), Some(left)) => self.left = Some(left.after(Keyword::Row)),
             (Line::Name(name, text), _) => self.names.give(name, text)?,
             _ => {}
         }
@@ -109,16 +108,32 @@ impl<'a> LineReader<'a> {
 
 /// The rows that follow the head of a schema.
 fn rows_of(head: SchemaHead) -> RowsLeft
-    ensures { λ r. ⌜ elim head [ Open ↦ complete r ≡ true | Table table ↦ (r .types ≡ table .types) × (r .fields ≡ table .fields) ] ⌝ }
+    ensures { λ r. ⌜ elim head [ Open ↦ complete r ≡ true | Table table ↦ (r .types ≡ table .types) × (r .fields ≡ table .fields) × (r .definitions ≡ 0) × (r .rows ≡ 0) ] ⌝ }
 {
     match head {
         SchemaHead::Open => RowsLeft {
             types: 0,
             fields: 0,
+            definitions: 0,
+            rows: 0,
         },
         SchemaHead::Table(head) => RowsLeft {
             types: head.types,
             fields: head.fields,
+            definitions: 0,
+            rows: 0,
         },
+    }
+}
+
+/// The rows that follow the head of a document.
+fn rows_of_document(head: DocumentHead) -> RowsLeft
+    ensures { λ r. ⌜ r .types ≡ 0 ⌝ ∗ ⌜ r .fields ≡ 0 ⌝ ∗ ⌜ r .definitions ≡ head .definitions ⌝ ∗ ⌜ r .rows ≡ head .rows ⌝ }
+{
+    RowsLeft {
+        types: 0,
+        fields: 0,
+        definitions: head.definitions,
+        rows: head.rows,
     }
 }

@@ -1,14 +1,16 @@
-// How many rows of a schema are still to come.
+// How many rows of a schema, or of a document, are still to come.
 ghost use mathlib.Core.Path.{_≡_};
-ghost use Prim.Native.Nat.{_-_};
-ghost use Rattle.text_input.specs.Places.{complete};
+ghost use Rattle.text_input.specs.Places.{complete, after-line};
+use crate::keywords::Keyword;
 use std::fmt;
 
-/// The types and the fields that are still to come.
+/// The rows that are still to come: a schema's types and fields, or a document's definitions and rows.
 #[derive(Clone, Copy)]
 pub struct RowsLeft {
     pub types: u32,
     pub fields: u32,
+    pub definitions: u32,
+    pub rows: u32,
 }
 
 impl RowsLeft {
@@ -16,39 +18,44 @@ impl RowsLeft {
     pub fn is_complete(self) -> bool
         ensures { λ r. ⌜ r ≡ complete self ⌝ }
     {
-        self.types == 0 && self.fields == 0
+        self.types == 0 && self.fields == 0 && self.definitions == 0 && self.rows == 0
     }
 
-    /// What is left after a type.
-    pub fn after_type(self) -> RowsLeft
-        ensures { λ r. ⌜ r .types ≡ self .types - 1 ⌝ ∗ ⌜ r .fields ≡ self .fields ⌝ }
+    /// What is left after a line with this keyword.
+    pub fn after(self, keyword: Keyword) -> RowsLeft
+        ensures { λ r. ⌜ r ≡ after-line keyword self ⌝ }
     {
-        RowsLeft {
-            types: self.types.saturating_sub(1),
-            fields: self.fields,
+        let mut left = self;
+        match keyword {
+            Keyword::Type => left.types = left.types.saturating_sub(1),
+            Keyword::Field => left.fields = left.fields.saturating_sub(1),
+            Keyword::Definition => left.definitions = left.definitions.saturating_sub(1),
+            Keyword::Row => left.rows = left.rows.saturating_sub(1),
+            _ => {}
         }
-    }
-
-    /// What is left after a field.
-    pub fn after_field(self) -> RowsLeft
-        ensures { λ r. ⌜ r .types ≡ self .types ⌝ ∗ ⌜ r .fields ≡ self .fields - 1 ⌝ }
-    {
-        RowsLeft {
-            types: self.types,
-            fields: self.fields.saturating_sub(1),
-        }
+        left
     }
 }
 
 pub impl fmt::Display for RowsLeft as RowsLeftDisplay {
     fn fmt<W: fmt::Write>(&self, f: &mut fmt::Formatter<W>) -> fmt::Result {
-        let types = Counted(u64::from(self.types), "type");
-        let fields = Counted(u64::from(self.fields), "field");
-        match (self.types, self.fields) {
-            (_, 0) => write!(f, "{types}"),
-            (0, _) => write!(f, "{fields}"),
-            _ => write!(f, "{types} and {fields}"),
+        let parts = [
+            Counted(u64::from(self.types), "type"),
+            Counted(u64::from(self.fields), "field"),
+            Counted(u64::from(self.definitions), "definition"),
+            Counted(u64::from(self.rows), "row"),
+        ];
+        let mut follows = false;
+        for part in parts {
+            if part.0 > 0 {
+                if follows {
+                    write!(f, " and ")?;
+                }
+                write!(f, "{part}")?;
+                follows = true;
+            }
         }
+        Ok(())
     }
 }
 

@@ -51,6 +51,14 @@ impl<'a> Words<'a> {
         read_number(word)
     }
 
+    /// The next words as numbers, one for each place.
+    pub fn numbers(&mut self, places: &mut [u32]) -> Result<(), Problem<'a>> {
+        for place in places.iter_mut() {
+            *place = self.number()?;
+        }
+        Ok(())
+    }
+
     /// The next word as a name: its number, or a text that was given to it.
     pub fn name(&mut self, names: &NameTable<'a>) -> Result<Name, Problem<'a>> {
         let word = self.word()?;
