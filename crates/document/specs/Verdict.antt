@@ -77,11 +77,6 @@ layout-fault definitions rows =
 abbrev pub document-fault : List DefinitionRow → List SelectionRow → Option DocumentFault
 document-fault definitions rows = or-else (size-fault (length definitions) (length rows)) (layout-fault definitions rows)
 
--- no fault, or the first one
-abbrev pub verdict-of : Option DocumentFault → Result Unit DocumentFault
-verdict-of None = Ok tt
-verdict-of (Some fault) = Err fault
-
 -- the fault that an answer tells, if it tells one
 abbrev pub told-fault : {X : Type 0} → Result X DocumentFault → Option DocumentFault
 told-fault (Ok x) = None

@@ -70,35 +70,35 @@ impl SelectionRow {
 
 impl DefinitionRow {
     /// Whether a name is 0 that this kind of definition needs.
-    pub fn is_unnamed(&self) -> bool
+    pub(crate) fn is_unnamed(&self) -> bool
         ensures { λ r. ⌜ r ≡ head-unnamed (head-of (now (self .entry))) ⌝ }
     {
         self.kind == 2 && (self.name == 0 || self.condition == 0)
     }
 
     /// Whether the definition is an operation that has a name.
-    pub fn is_named_operation(&self) -> bool
+    pub(crate) fn is_named_operation(&self) -> bool
         ensures { λ r. ⌜ r ≡ named-operation (head-of (now (self .entry))) ⌝ }
     {
         self.kind == 1 && self.name != 0
     }
 
     /// Whether the definition is a fragment.
-    pub fn is_fragment(&self) -> bool
+    pub(crate) fn is_fragment(&self) -> bool
         ensures { λ r. ⌜ r ≡ is-fragment (head-of (now (self .entry))) ⌝ }
     {
         self.kind == 2
     }
 
     /// Whether the definition is one of the type system.
-    pub fn is_type_system(&self) -> bool
+    pub(crate) fn is_type_system(&self) -> bool
         ensures { λ r. ⌜ r ≡ is-type-system (head-of (now (self .entry))) ⌝ }
     {
         matches!(self.kind, 3..=17)
     }
 
     /// Whether a member that this kind of definition does not use is not 0, or there is no such kind.
-    pub fn is_broken(&self) -> bool
+    pub(crate) fn is_broken(&self) -> bool
         ensures { λ r. ⌜ r ≡ head-broken (head-of (now (self .entry))) ⌝ }
     {
         match self.kind {

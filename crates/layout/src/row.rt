@@ -9,7 +9,7 @@ pub enum RowFault {
     NameMissing,
     /// A member or the end breaks the layout.
     Broken,
-    /// More than 32 rows stand one beneath the other.
+    /// The row stands deeper than is allowed.
     TooDeep,
 }
 

@@ -2,6 +2,8 @@
 use Prim.Native.Nat.{ℕ, zero, suc, _+_}
 use Rattle.std.specs.declared.option.Option.{Option}
 use Rattle.std.specs.declared.option.Option.the-variants.{Some, None}
+use Rattle.std.specs.declared.result.Result.{Result}
+use Rattle.std.specs.declared.result.Result.the-variants.{Ok, Err}
 
 -- the fault of the row i, where it has one, told with the row's place plus 1; else what the rows after it come to
 abbrev pub at-row : {F G : Type 0} → (F → ℕ → G) → ℕ → Option F → Option G → Option G
@@ -17,3 +19,8 @@ first-fault told fault i (suc left) = at-row told i (fault i) (first-fault told 
 abbrev pub or-else : {G : Type 0} → Option G → Option G → Option G
 or-else None later = later
 or-else (Some fault) later = Some fault
+
+-- no fault, or the first one, as the answer of a check
+abbrev pub verdict-of : {G : Type 0} → Option G → Result Unit G
+verdict-of None = Ok tt
+verdict-of (Some fault) = Err fault

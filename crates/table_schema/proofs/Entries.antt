@@ -23,7 +23,8 @@ use Rattle.table_schema.specs.declared.fault.SchemaFault.{SchemaFault}
 use Rattle.table_schema.specs.declared.fault.SchemaFault.the-variants.{OverLimit, SlotsUnfit, InFields}
 use Rattle.table_schema.specs.Keys.{field-key, row-key, entry-key}
 use Rattle.table_schema.specs.Meaning.{no-field, named, owns, known-type, kind-there, kind-of, field-there, field-of}
-use Rattle.table_schema.specs.Verdict.{owns-fields, field-fault-at, types-fault, fields-fault, rows-fault, over-limit, empty-index, verdict-of, index-fault}
+use Rattle.refusal.specs.Firsts.{verdict-of}
+use Rattle.table_schema.specs.Verdict.{owns-fields, field-fault-at, types-fault, fields-fault, rows-fault, over-limit, empty-index, index-fault}
 use Rattle.table_schema.specs.Kept.{no-entry, holds, entry-there, kept-field, entry-of, entries-from, Owners-known}
 use Rattle.refusal.proofs.Firsts.{no-fault, or-else-none}
 use Rattle.table_schema.proofs.Founds.{first-at}

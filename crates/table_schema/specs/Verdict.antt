@@ -7,8 +7,6 @@ use lib.ListN.{length, getD, take}
 use Rattle.std.specs.Options.{isSome}
 use Rattle.std.specs.declared.option.Option.{Option}
 use Rattle.std.specs.declared.option.Option.the-variants.{Some, None}
-use Rattle.std.specs.declared.result.Result.{Result}
-use Rattle.std.specs.declared.result.Result.the-variants.{Ok, Err}
 use Rattle.ordered_index.specs.Firsts.{first-place}
 use Rattle.refusal.specs.Firsts.{first-fault, or-else}
 use Rattle.schema.specs.declared.answers.TypeKind.{TypeKind}
@@ -75,10 +73,6 @@ zeros (s ∷ slots) = eqb s 0 && zeros slots
 
 abbrev pub empty-index : ℕ → List ℕ → Bool
 empty-index size slots = eqb (length slots) size && zeros slots
-
-abbrev pub verdict-of : Option SchemaFault → Result Unit SchemaFault
-verdict-of None = Ok tt
-verdict-of (Some fault) = Err fault
 
 -- the verdict on rows that are to be indexed in these slots: sizes first, then the slots, then the rows
 abbrev pub index-fault : List TypeRow → List FieldRow → List ℕ → List ℕ → Option SchemaFault

@@ -20,8 +20,8 @@ pub enum RowFault {
 }
 
 impl RowFault {
-    /// The number of the fault.
-    pub fn number(self) -> u32
+    // The number of the fault.
+    fn number(self) -> u32
         ensures { λ r. ⌜ r ≡ row-fault-number self ⌝ }
     {
         match self {

@@ -2,7 +2,8 @@
 ghost use mathlib.Core.Path.{_≡_};
 ghost use Rattle.std.specs.Results.{Cases};
 ghost use Rattle.document.specs.Document.{Reads-as-one, Reads-as-none};
-ghost use Rattle.document.specs.Verdict.{document-fault, verdict-of};
+ghost use Rattle.refusal.specs.Firsts.{verdict-of};
+ghost use Rattle.document.specs.Verdict.{document-fault};
 use super::Document;
 use crate::check::document_fault;
 use crate::fault::DocumentFault;

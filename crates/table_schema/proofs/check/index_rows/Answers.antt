@@ -6,7 +6,8 @@ use lib.Dec.{eqb}
 use lib.ListN.{length}
 use Rattle.std.proofs.shelf.Tests.{cond-true, cond-false, or-from, and-from, and-parts, le-ltb, eqb-true}
 use Rattle.ordered_index.specs.Keys.{same-name, name-hash, same-field, field-hash}
-use Rattle.table_schema.specs.Verdict.{over-limit, empty-index, zeros, verdict-of, index-fault}
+use Rattle.refusal.specs.Firsts.{verdict-of}
+use Rattle.table_schema.specs.Verdict.{over-limit, empty-index, zeros, index-fault}
 use Rattle.table_schema.proofs.Steps.{fresh, emptied}
 use Rattle.table_schema.proofs.check.index_rows.Needs as need
 

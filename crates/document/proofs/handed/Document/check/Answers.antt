@@ -2,7 +2,8 @@ use mathlib.Core.Path.{_≡_, refl, sym, ap, _∙_}
 use Prim.Native.Nat.{ℕ}
 use native.Mathlib.Omega.{arith}
 use Rattle.std.specs.declared.option.Option.the-variants.{Some, None}
-use Rattle.document.specs.Verdict.{verdict-of, document-fault}
+use Rattle.document.specs.Verdict.{document-fault}
+use Rattle.refusal.specs.Firsts.{verdict-of}
 use Rattle.document.proofs.Documents.{is-document, without-fault, only-one}
 use Rattle.document.proofs.handed.Document.check.Needs as need
 

@@ -9,7 +9,8 @@ use Rattle.std.specs.declared.option.Option.the-variants.{Some, None}
 use Rattle.document.specs.declared.handed.needs.Needs.{Needs}
 use Rattle.document.specs.declared.fault.DocumentFault.{DocumentFault}
 use Rattle.document.specs.Rows.{head-of, is-fragment, named-operation}
-use Rattle.document.specs.Verdict.{verdict-of, told-fault, document-fault}
+use Rattle.document.specs.Verdict.{told-fault, document-fault}
+use Rattle.refusal.specs.Firsts.{verdict-of}
 use Rattle.document.specs.Needs.{keys-in, rows-in, needs-of}
 use Rattle.document.proofs.Keys.{count-heads, all-rows, as-many}
 use Rattle.document.proofs.handed.Document.needs.Needs as need
