@@ -1,4 +1,6 @@
 // Building executable documents: definitions are taken in order, typed, and stored; errors are listed with their paths.
+#![tactic(auto)]
+
 mod filled;
 mod path;
 mod progress;

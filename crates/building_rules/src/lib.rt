@@ -1,5 +1,7 @@
 // The rules of building executable documents, definition by definition, over any schema; and what they come to.
 // Each function does nothing; its promise is a theorem on the rules.
+#![tactic(auto)]
+
 ghost use Rattle.building_rules.specs.Statement.{ExactlyWhenValid};
 ghost use Rattle.building_rules.specs.Whole.{ValidKeptWhole};
 ghost use Rattle.building_rules.specs.Keeping.{KeptExactly, KeptInOrder};

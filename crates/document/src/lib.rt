@@ -2,6 +2,8 @@
 //
 // `Document::check` tells the first fault of the tables, or that they are a document; `Document::needs` also how many
 // places building it can need. `selections` and `next_selection` read it, set by set.
+#![tactic(auto)]
+
 mod check;
 mod fault;
 mod handed;

@@ -2,6 +2,8 @@
 //
 // The nanoseconds for a row go to standard error, since they differ from run to run. The sums of the answers, which do
 // not, go to standard output; each round starts from the sum of the one before it, so that no round can be left out.
+#![tactic(auto)]
+
 use document::{DefinitionRow, Document, SelectionRow};
 use std::alloc::{AllocError, Global};
 use std::io;

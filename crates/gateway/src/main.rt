@@ -1,4 +1,6 @@
 // Reads schemas, questions to them and documents from the standard input, and prints the answers and the outlines.
+#![tactic(auto)]
+
 use printout::printout;
 use std::io;
 use std::io::BufReader;

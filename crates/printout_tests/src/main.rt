@@ -1,5 +1,7 @@
 // Prints the printout of each of several texts, which lines of dashes part in the standard input. It is there for its
 // stdin and stdout: each text has another error, or none.
+#![tactic(auto)]
+
 use printout::printout;
 use std::io;
 use std::io::BufReader;

@@ -1,4 +1,6 @@
 // What a refused call tells: the number of the reason, the layer at fault, and the faulty row.
+#![tactic(auto)]
+
 ghost use Rattle.std.specs.Prelude.{◌≡◌};
 ghost use Rattle.refusal.specs.Layers.{layer_number};
 

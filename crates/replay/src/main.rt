@@ -2,6 +2,8 @@
 // of its documents, if there is one.
 //
 // `words` takes the text apart, `parts` says what a case is made of, `reading` reads it, and `verdict` judges it.
+#![tactic(auto)]
+
 mod parts;
 mod reading;
 mod verdict;

@@ -2,6 +2,8 @@
 // starts, whether a type is known, of which kind it is, and what a field of it is. The interface is the trait `Schema`.
 // The crate has a schema that knows everything (`OpenSchema`), the meta-fields over any schema (`MetaLayer`),
 // a schema that is borrowed (`SchemaRef`), and code that works with every schema (`ask`, `knows_by_field`).
+#![tactic(auto)]
+
 pub mod answers;
 pub mod borrowed;
 pub mod interface;

@@ -2,6 +2,8 @@
 //
 // The nanoseconds of a lookup go to standard error, since they differ from run to run. The sums of the answers, which do
 // not, go to standard output; each round starts from the sum of the one before it, so that no round can be left out.
+#![tactic(auto)]
+
 use anyhow::anyhow;
 use schema::{FieldLookupError, MetaLayer, Name, OperationType, Schema, names};
 use std::alloc::{AllocError, Global};

@@ -1,5 +1,7 @@
 // Tests of the schema's crates from outside, as another crate uses them: the ordered index filled to its limit and
 // damaged, the rows of a table schema with every fault, and the answers of the schemas and of the meta-fields.
+#![tactic(auto)]
+
 #[cfg(test)]
 mod index_damage;
 #[cfg(test)]

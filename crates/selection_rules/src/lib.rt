@@ -1,5 +1,7 @@
 // What becomes of one selection: the rules of the specification on fields, leaves and conditions, over any schema;
 // and what is told of it: the stored row, or the error.
+#![tactic(auto)]
+
 mod error;
 mod settling;
 mod stored;

@@ -3,6 +3,8 @@
 // `index_rows` checks the rows and indexes them in slots that the caller lends; `TableSchema::new` does the same in
 // memory of its own, keeps a copy of the rows, and answers as a schema. `schema_with_meta_fields` puts the meta layer
 // over it, which makes the original library's schema.
+#![tactic(auto)]
+
 mod check;
 mod fault;
 mod original;

@@ -2,6 +2,8 @@
 //
 // A new kind of line takes a `Keyword` with its word and its form, a case of `Line`, its reading in `lines`, and the
 // rule where it may stand in `places`; `Words` takes a line apart, with the errors that every kind of line can have.
+#![tactic(auto)]
+
 mod keywords;
 mod lines;
 mod name_table;
