@@ -19,7 +19,7 @@ pub loop-i-preserved : goal.loop-i-preserved
 loop-i-preserved c =
     let ds = c.args.definitions.now in
     let i = c.loop-i.i in
-    ap (λ f. at_row InDefinitions i f (definitions_fault c.args.rows (get_or ds i no_definition_row).end (i + 1) (drop (i + 1) ds))) c.in-default.ensures
+    ap (λ f. at_row InDefinitions i f (definitions_fault c.args.rows (get_or ds i no_definition_row).end (i + 1) (drop (i + 1) ds))) c.in_default.ensures
     ∙ sym (definitions_step c.args.rows c.loop-i.start i ds c.loop-i-test.true)
     ∙ c.loop-i.invariant
 

@@ -10,8 +10,8 @@ use Rattle.document.proofs.check.fault_in_rows.Goals as goal
 pub loop-i-init : goal.loop-i-init
 loop-i-init c = ((0, c.requires.ranges), refl)
 
-pub overflow-cast-result : goal.overflow-cast-result
-overflow-cast-result c = omega (arith, c.in-Some.ensures.inside, c.requires.few)
+pub overflow_cast-result : goal.overflow_cast-result
+overflow_cast-result c = omega (arith, c.in-Some.ensures.inside, c.requires.few)
 
 pub returns-in-Some : goal.returns-in-Some
 returns-in-Some c =
@@ -30,7 +30,7 @@ loop-i-preserved c =
     let views = map selection_view rows in
     let i = c.loop-i.i in
     let at = next_placed (length rows) c.loop-i.invariant.0.0 i ds c.loop-i-test.true c.loop-i.invariant.0.1 in
-    let found = range_search views (get_or ds i no_definition_row) (length rows) c.loop-i.invariant.0.0 (eqb (i + 1) (length ds)) None at.0 c.in-default.ensures.first in (
+    let found = range_search views (get_or ds i no_definition_row) (length rows) c.loop-i.invariant.0.0 (eqb (i + 1) (length ds)) None at.0 c.in_default.ensures.first in (
       ((get_or ds i no_definition_row).end, at.1),
       ap (λ m. or_else (in_rows m) (rows_fault views (drop (i + 1) ds))) found ∙ sym (rows_step views i ds c.loop-i-test.true) ∙ c.loop-i.invariant.1,
     )

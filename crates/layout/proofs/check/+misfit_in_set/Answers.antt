@@ -13,14 +13,14 @@ returns-in-Some g t c =
     turn_here (map seen rows) c.args.start c.args.end c.args.room i c.view-view.result c.in-Some.fault _
     here c.loop-i.invariant.0 c.loop-i.invariant.2 c.loop-i-test.true c.loop-i.invariant.3 c.in-Some.ensures
 
-pub returns-in-Some-misfit-in-set : goal.returns-in-Some-misfit-in-set
-returns-in-Some-misfit-in-set g t c =
+pub returns-in-Some-misfit_in_set : goal.returns-in-Some-misfit_in_set
+returns-in-Some-misfit_in_set g t c =
     let seen = g.R.Row.seen in
     let rows = c.args.rows.now in
     let i = c.loop-i.i in
     let here = c.view-view.ensures ∙ ap seen c.index-rows-i.is ∙ sym (get_or-map seen rows i c.index-rows-i.result no_view (omega (arith, c.requires.within))) in
-    (turn_on (map seen rows) c.args.start c.args.end c.args.room i c.view-view.result _ (Some c.in-Some-misfit-in-set.misfit)
-    here c.loop-i.invariant.0 c.loop-i.invariant.2 c.loop-i-test.true c.loop-i.invariant.3 c.in-default.ensures c.in-Some-misfit-in-set.ensures).2
+    (turn_on (map seen rows) c.args.start c.args.end c.args.room i c.view-view.result _ (Some c.in-Some-misfit_in_set.misfit)
+    here c.loop-i.invariant.0 c.loop-i.invariant.2 c.loop-i-test.true c.loop-i.invariant.3 c.in_default.ensures c.in-Some-misfit_in_set.ensures).2
 
 pub loop-i-preserved : goal.loop-i-preserved
 loop-i-preserved g t c =
@@ -29,5 +29,5 @@ loop-i-preserved g t c =
     let i = c.loop-i.i in
     let here = c.view-view.ensures ∙ ap seen c.index-rows-i.is ∙ sym (get_or-map seen rows i c.index-rows-i.result no_view (omega (arith, c.requires.within))) in
     let turn = turn_on (map seen rows) c.args.start c.args.end c.args.room i c.view-view.result _ None
-    here c.loop-i.invariant.0 c.loop-i.invariant.2 c.loop-i-test.true c.loop-i.invariant.3 c.in-default.ensures c.in-default-misfit-in-set.ensures in
+    here c.loop-i.invariant.0 c.loop-i.invariant.2 c.loop-i-test.true c.loop-i.invariant.3 c.in_default.ensures c.in_default-misfit_in_set.ensures in
     (omega (arith, c.loop-i.invariant.0, turn.0), turn.1, turn.3 refl, turn.2)

@@ -4,8 +4,8 @@ use Rattle.layout.specs.Places.{misfit, fault_in, first_misfit}
 use Rattle.layout.proofs.Windows.{Closed}
 use Rattle.layout.proofs.check.+misfit_in_set.Given as goal
 
-abbrev pub decreases-misfit-in-set : goal.decreases-misfit-in-set
-decreases-misfit-in-set g l = l.end - l.start
+abbrev pub decreases-misfit_in_set : goal.decreases-misfit_in_set
+decreases-misfit_in_set g l = l.end - l.start
 
 -- the rows so far fit, and the rows to come have the first that does not
 abbrev pub invariant-loop-i : goal.invariant-loop-i

@@ -13,9 +13,9 @@ returns g c =
     let low : start ≡ min c.args.start end = c.min.ensures in
     let high : end ≡ min c.args.end (length rows) = c.min-end.ensures in
     record {
-      inside = inside_rows (fault_in views start end room) start (end - start) (length rows) c.misfit-in-set.result (omega arith) c.misfit-in-set.ensures;
+      inside = inside_rows (fault_in views start end room) start (end - start) (length rows) c.misfit_in_set.result (omega arith) c.misfit_in_set.ensures;
       first =
-          c.misfit-in-set.ensures
+          c.misfit_in_set.ensures
           ∙ ap (λ s. first_misfit views s end room) (low ∙ ap (min c.args.start) high)
           ∙ ap (λ e. first_misfit views (min c.args.start (min c.args.end (length rows))) e room) high;
     }

@@ -5,19 +5,19 @@ pub returns-in-Found : goal.returns-in-Found
 returns-in-Found g c =
     let k = g.E.Of.Key in
     let all = finding g.E.Entry.keyed k.equal k.digest g.met.E.Of.Key.lawful c.args.entries.now c.args.count c.args.slots.now c.args.key.now
-    c.in-use.result.now c.in-use.ensures _ c.in-Found.ensures in
+    c.in_use.result.now c.in_use.ensures _ c.in-Found.ensures in
     record { answer = all.0; located = all.1 }
 
 pub returns-in-Vacant : goal.returns-in-Vacant
 returns-in-Vacant g c =
     let k = g.E.Of.Key in
     let all = finding g.E.Entry.keyed k.equal k.digest g.met.E.Of.Key.lawful c.args.entries.now c.args.count c.args.slots.now c.args.key.now
-    c.in-use.result.now c.in-use.ensures _ c.in-Vacant.ensures in
+    c.in_use.result.now c.in_use.ensures _ c.in-Vacant.ensures in
     record { answer = all.0; located = all.1 }
 
 pub returns-in-Round : goal.returns-in-Round
 returns-in-Round g c =
     let k = g.E.Of.Key in
     let all = finding g.E.Entry.keyed k.equal k.digest g.met.E.Of.Key.lawful c.args.entries.now c.args.count c.args.slots.now c.args.key.now
-    c.in-use.result.now c.in-use.ensures _ c.in-Round.ensures in
+    c.in_use.result.now c.in_use.ensures _ c.in-Round.ensures in
     record { answer = all.0; located = all.1 }

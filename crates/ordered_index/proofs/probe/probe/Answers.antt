@@ -36,7 +36,7 @@ loop-step-preserved g c =
     let at = c.loop-step.at in
     let step = c.loop-step.step in
     let some-slot : 0 < length slots = omega arith in
-    let next = c.next-slot-at.ensures in
+    let next = c.next_slot-at.ensures in
     let other : names equal keys q (get_or slots at 0) ≡ _ =
     elim c.if-held-entries.branch [
       | then-held-entries+else-equals w ↦

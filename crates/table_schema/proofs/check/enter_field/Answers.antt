@@ -28,8 +28,8 @@ returns-in-Present c =
       sound = tt;
     }
 
-pub returns-then-is-owner : goal.returns-then-is-owner
-returns-then-is-owner c =
+pub returns-then-is_owner : goal.returns-then-is_owner
+returns-then-is_owner c =
     let fields = c.args.fields.now in
     let i = c.args.i in
     let row = get_or fields i no_field in
@@ -38,13 +38,13 @@ returns-then-is-owner c =
     let before = ap (λ k. is_some (first_place (λ e. same_field (row_key e) k) (take i fields) 0)) (sym c.key.ensures) ∙ ap is_some came in
     let names = names_there row.owner row.name row.inner c.if-row-eq0.false c.if-row-eq0-2.false c.if-row-eq0-3.false in
     record {
-      fault = sym (field_fault_last c.args.types.now (take i fields) row false names before ∙ cond-true _ _ _ (sym c.if-is-owner.ensures));
+      fault = sym (field_fault_last c.args.types.now (take i fields) row false names before ∙ cond-true _ _ _ (sym c.if-is_owner.ensures));
       sound = subst (λ (keys : List TypeField). Sound same_field field_hash keys c.enter.new.slots)
           (ap (λ k. keys_of row_key i fields ++ k ∷ []) c.key.ensures ∙ keys_more row_key fields i no_field c.requires.inside) (told.sound c.requires.sound);
     }
 
-pub returns-else-is-owner : goal.returns-else-is-owner
-returns-else-is-owner c =
+pub returns-else-is_owner : goal.returns-else-is_owner
+returns-else-is_owner c =
     let fields = c.args.fields.now in
     let i = c.args.i in
     let row = get_or fields i no_field in
@@ -53,6 +53,6 @@ returns-else-is-owner c =
     let before = ap (λ k. is_some (first_place (λ e. same_field (row_key e) k) (take i fields) 0)) (sym c.key.ensures) ∙ ap is_some came in
     let names = names_there row.owner row.name row.inner c.if-row-eq0.false c.if-row-eq0-2.false c.if-row-eq0-3.false in
     record {
-      fault = sym (field_fault_last c.args.types.now (take i fields) row false names before ∙ cond-false _ _ _ (sym c.if-is-owner.ensures));
+      fault = sym (field_fault_last c.args.types.now (take i fields) row false names before ∙ cond-false _ _ _ (sym c.if-is_owner.ensures));
       sound = tt;
     }

@@ -14,8 +14,8 @@ use Rattle.table_schema.proofs.check.index_fields.Goals as goal
 pub loop-i-init : goal.loop-i-init
 loop-i-init c = (c.requires.fresh, ap (first_fault InFields (field_fault_at c.args.types.now c.args.fields.now) 0) (omega arith))
 
-pub enter-field-requires : goal.enter-field-requires
-enter-field-requires c =
+pub enter_field-requires : goal.enter_field-requires
+enter_field-requires c =
     record {
       inside = c.loop-i-test.true;
       room = omega (arith, limit_is c.loop-i.slots 8192 (c.loop-i.auto.slots ∙ c.requires.size), c.requires.few);
@@ -38,7 +38,7 @@ loop-i-preserved c =
     let types = c.args.types.now in
     let fields = c.args.fields.now in
     let i = c.loop-i.i in
-    let told = c.in-default.ensures in (
+    let told = c.in_default.ensures in (
       told.sound,
       sym (fault_next InFields (field_fault_at types fields) i (length fields - i) (length fields - (i + 1)) (omega arith) (sym told.fault)) ∙ c.loop-i.invariant.1,
     )

@@ -13,8 +13,8 @@ use Rattle.table_schema.proofs.check.index_types.Goals as goal
 pub loop-i-init : goal.loop-i-init
 loop-i-init c = (c.requires.fresh, ap (first_fault InTypes (type_fault_at c.args.types.now) 0) (omega arith))
 
-pub enter-type-requires : goal.enter-type-requires
-enter-type-requires c =
+pub enter_type-requires : goal.enter_type-requires
+enter_type-requires c =
     record {
       inside = c.loop-i-test.true;
       room = omega (arith, limit_is c.loop-i.slots 2048 (c.loop-i.auto.slots ∙ c.requires.size), c.requires.few);
@@ -34,7 +34,7 @@ pub loop-i-preserved : goal.loop-i-preserved
 loop-i-preserved c =
     let types = c.args.types.now in
     let i = c.loop-i.i in
-    let told = c.in-default.ensures in (
+    let told = c.in_default.ensures in (
       told.sound,
       sym (fault_next InTypes (type_fault_at types) i (length types - i) (length types - (i + 1)) (omega arith) (sym told.fault)) ∙ c.loop-i.invariant.1,
     )

@@ -13,7 +13,7 @@ returns-in-Some c =
     let types = c.args.types.now in
     let all = whole type_key same_name name_hash types c.args.slots.now c.requires.sound in
     let at = place_in type_key same_name types c.args.owner (Some c.in-Some.i) (c.in-Some.ensures.located all) in
-    c.owns_fields.ensures ∙ ap owns_fields c.from-number.ensures ∙ ap (λ p. owns_fields (kind_there types p)) at
+    c.owns_fields.ensures ∙ ap owns_fields c.from_number.ensures ∙ ap (λ p. owns_fields (kind_there types p)) at
 
 pub returns-in-None : goal.returns-in-None
 returns-in-None c =
@@ -27,8 +27,8 @@ bounds-types-i c =
     let all = whole type_key same_name name_hash types c.args.slots.now c.requires.sound in
     located_inside type_key same_name (length types) types c.args.owner c.in-Some.i (c.in-Some.ensures.located all)
 
-pub offset-bounds-types-i : goal.offset-bounds-types-i
-offset-bounds-types-i c =
+pub offset_bounds-types-i : goal.offset_bounds-types-i
+offset_bounds-types-i c =
     let types = c.args.types.now in
     let all = whole type_key same_name name_hash types c.args.slots.now c.requires.sound in
     let low = located_inside type_key same_name (length types) types c.args.owner c.in-Some.i (c.in-Some.ensures.located all) in

@@ -27,7 +27,7 @@ pub returns : goal.returns
 returns c =
     let ds = c.args.self.now.definitions.now in
     let rows = c.args.self.now.rows.now in
-    let told = c.in-default.ensures in
+    let told = c.in_default.ensures in
     let d = told.lawful.document in
     let is = told.lawful.is in
     let all : length rows ≡ rows_in d = ap length is.selected ∙ all_rows rows 0 d in
@@ -38,7 +38,7 @@ returns c =
         d,
         is,
         needs_same _ _ _ _ _ _ _ _ _ _
-            (c.named-operations.ensures ∙ ap (count_by (λ r. named_operation (head_of r))) is.heads ∙ count_heads named_operation 0 d)
+            (c.named_operations.ensures ∙ ap (count_by (λ r. named_operation (head_of r))) is.heads ∙ count_heads named_operation 0 d)
             (c.fragments.ensures ∙ ap (count_by (λ r. is_fragment (head_of r))) is.heads ∙ count_heads is_fragment 0 d)
             all (omega arith) (c.path_keys.ensures d is),
       );

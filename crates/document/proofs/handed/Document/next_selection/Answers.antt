@@ -7,6 +7,6 @@ pub returns : goal.returns
 returns c =
     let rows = c.args.self.now.rows.now in
     record {
-      step = c.next-in.ensures;
-      forest = λ f h. subst (Follows rows c.args.set f) (sym c.next-in.ensures) (next_follows rows c.args.set f h);
+      step = c.next_in.ensures;
+      forest = λ f h. subst (Follows rows c.args.set f) (sym c.next_in.ensures) (next_follows rows c.args.set f h);
     }

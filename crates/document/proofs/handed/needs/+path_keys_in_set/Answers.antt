@@ -19,27 +19,27 @@ loop-step-init t c =
       omega arith,
     )
 
-pub path-keys-in-set-requires : goal.path-keys-in-set-requires
-path-keys-in-set-requires t c =
+pub path_keys_in_set-requires : goal.path_keys_in_set-requires
+path_keys_in_set-requires t c =
     let inv = c.loop-step.invariant.0 in
-    let turn = turned c.args.rows.now c.loop-step.rest c.args.above inv.0 c.in-Some.step c.fields-beneath-beneath.result inv.1 inv.2 c.in-Some.ensures c.fields-beneath-beneath.ensures in (
+    let turn = turned c.args.rows.now c.loop-step.rest c.args.above inv.0 c.in-Some.step c.fields_beneath-beneath.result inv.1 inv.2 c.in-Some.ensures c.fields_beneath-beneath.ensures in (
       omega (arith, turn.starts, turn.meets, turn.high, c.loop-step.invariant.1, c.loop-step.invariant.2, c.decreases),
       (c.requires.few, (turn.below, turn.beneath, turn.lower)),
     )
 
-pub overflow-add-total : goal.overflow-add-total
-overflow-add-total t c =
+pub overflow_add-total : goal.overflow_add-total
+overflow_add-total t c =
     let inv = c.loop-step.invariant.0 in
-    let turn = turned c.args.rows.now c.loop-step.rest c.args.above inv.0 c.in-Some.step c.fields-beneath-beneath.result inv.1 inv.2 c.in-Some.ensures c.fields-beneath-beneath.ensures in
-    let sub = c.path-keys-in-set.ensures turn.below turn.beneath in
+    let turn = turned c.args.rows.now c.loop-step.rest c.args.above inv.0 c.in-Some.step c.fields_beneath-beneath.result inv.1 inv.2 c.in-Some.ensures c.fields_beneath-beneath.ensures in
+    let sub = c.path_keys_in_set.ensures turn.below turn.beneath in
     let few = set_keys c.args.rows.now c.loop-step.rest c.args.above inv.0 c.requires.few inv.1 inv.2 in
     omega (arith, turn.sums)
 
-pub overflow-add-total-in-Some : goal.overflow-add-total-in-Some
-overflow-add-total-in-Some t c =
+pub overflow_add-total-in-Some : goal.overflow_add-total-in-Some
+overflow_add-total-in-Some t c =
     let inv = c.loop-step.invariant.0 in
-    let turn = turned c.args.rows.now c.loop-step.rest c.args.above inv.0 c.in-Some.step c.fields-beneath-beneath.result inv.1 inv.2 c.in-Some.ensures c.fields-beneath-beneath.ensures in
-    let sub = c.path-keys-in-set.ensures turn.below turn.beneath in
+    let turn = turned c.args.rows.now c.loop-step.rest c.args.above inv.0 c.in-Some.step c.fields_beneath-beneath.result inv.1 inv.2 c.in-Some.ensures c.fields_beneath-beneath.ensures in
+    let sub = c.path_keys_in_set.ensures turn.below turn.beneath in
     let f = c.requires.stands in
     let few = set_keys c.args.rows.now c.args.set c.args.above f.0 c.requires.few f.1 f.2 in
     let all = inv.3 f.0 f.1 in
@@ -48,14 +48,14 @@ overflow-add-total-in-Some t c =
 pub loop-step-smaller : goal.loop-step-smaller
 loop-step-smaller t c =
     let inv = c.loop-step.invariant.0 in
-    let turn = turned c.args.rows.now c.loop-step.rest c.args.above inv.0 c.in-Some.step c.fields-beneath-beneath.result inv.1 inv.2 c.in-Some.ensures c.fields-beneath-beneath.ensures in
+    let turn = turned c.args.rows.now c.loop-step.rest c.args.above inv.0 c.in-Some.step c.fields_beneath-beneath.result inv.1 inv.2 c.in-Some.ensures c.fields_beneath-beneath.ensures in
     omega (arith, turn.low, turn.high, turn.ends)
 
 pub loop-step-preserved : goal.loop-step-preserved
 loop-step-preserved t c =
     let inv = c.loop-step.invariant.0 in
-    let turn = turned c.args.rows.now c.loop-step.rest c.args.above inv.0 c.in-Some.step c.fields-beneath-beneath.result inv.1 inv.2 c.in-Some.ensures c.fields-beneath-beneath.ensures in
-    let sub = c.path-keys-in-set.ensures turn.below turn.beneath in (
+    let turn = turned c.args.rows.now c.loop-step.rest c.args.above inv.0 c.in-Some.step c.fields_beneath-beneath.result inv.1 inv.2 c.in-Some.ensures c.fields_beneath-beneath.ensures in
+    let sub = c.path_keys_in_set.ensures turn.below turn.beneath in (
       (
         turn.after,
         turn.beyond,
@@ -69,7 +69,7 @@ loop-step-preserved t c =
 pub returns : goal.returns
 returns t c f holds =
     let inv = c.loop-step.invariant.0 in
-    let over = ended c.args.rows.now c.loop-step.rest inv.0 inv.1 c.in-default.ensures in
+    let over = ended c.args.rows.now c.loop-step.rest inv.0 inv.1 c.in_default.ensures in
     let none_left : path_keys c.args.above inv.0 ≡ 0 = ap (path_keys c.args.above) over in
     let all = inv.3 f holds in
     omega arith

@@ -5,8 +5,8 @@ use Rattle.document.specs.Sets.{Holds}
 use Rattle.document.specs.Needs.{path_keys}
 use Rattle.document.proofs.handed.needs.+path_keys_in_set.Given as goal
 
-abbrev pub decreases-path-keys-in-set : goal.decreases-path-keys-in-set
-decreases-path-keys-in-set l = l.set.end - l.set.next
+abbrev pub decreases-path_keys_in_set : goal.decreases-path_keys_in_set
+decreases-path_keys_in_set l = l.set.end - l.set.next
 
 -- what is left adds up with what was counted
 abbrev pub invariant-loop-step : goal.invariant-loop-step

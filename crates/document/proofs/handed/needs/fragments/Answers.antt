@@ -5,16 +5,16 @@ use Rattle.document.specs.declared.rows.DefinitionRow.{DefinitionRow}
 use Rattle.document.specs.Rows.{head_of, is_fragment}
 use Rattle.document.specs.Sets.{no_definition_row}
 use Rattle.document.proofs.handed.needs.fragments.Goals as goal
-use Rattle.document.proofs.handed.needs.fragments.Goals.{then-is-fragment, else-is-fragment}
+use Rattle.document.proofs.handed.needs.fragments.Goals.{then-is_fragment, else-is_fragment}
 
 pub loop-row-preserved : goal.loop-row-preserved
 loop-row-preserved c =
     let xs = c.args.definitions.now in
     let i = c.loop-row.row-index in
     let test : DefinitionRow → Bool = λ d. is_fragment (head_of d) in
-    elim c.if-is-fragment.branch [
-      | then-is-fragment w ↦ (omega (arith, w.n-is), w.n-is ∙ ap (λ k. k + 1) c.loop-row.invariant.1 ∙ sym (count_by_more_yes test xs i no_definition_row c.loop-row-test.true (sym c.is_fragment.ensures ∙ w.if-is-fragment.true)))
-      | else-is-fragment w ↦ (omega (arith, w.n-is), w.n-is ∙ c.loop-row.invariant.1 ∙ sym (count_by_more_no test xs i no_definition_row c.loop-row-test.true (sym c.is_fragment.ensures ∙ w.if-is-fragment.false)))
+    elim c.if-is_fragment.branch [
+      | then-is_fragment w ↦ (omega (arith, w.n-is), w.n-is ∙ ap (λ k. k + 1) c.loop-row.invariant.1 ∙ sym (count_by_more_yes test xs i no_definition_row c.loop-row-test.true (sym c.is_fragment.ensures ∙ w.if-is_fragment.true)))
+      | else-is_fragment w ↦ (omega (arith, w.n-is), w.n-is ∙ c.loop-row.invariant.1 ∙ sym (count_by_more_no test xs i no_definition_row c.loop-row-test.true (sym c.is_fragment.ensures ∙ w.if-is_fragment.false)))
     ]
 
 pub returns : goal.returns

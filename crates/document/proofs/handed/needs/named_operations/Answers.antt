@@ -5,16 +5,16 @@ use Rattle.document.specs.declared.rows.DefinitionRow.{DefinitionRow}
 use Rattle.document.specs.Rows.{head_of, named_operation}
 use Rattle.document.specs.Sets.{no_definition_row}
 use Rattle.document.proofs.handed.needs.named_operations.Goals as goal
-use Rattle.document.proofs.handed.needs.named_operations.Goals.{then-is-named-operation, else-is-named-operation}
+use Rattle.document.proofs.handed.needs.named_operations.Goals.{then-is_named_operation, else-is_named_operation}
 
 pub loop-row-preserved : goal.loop-row-preserved
 loop-row-preserved c =
     let xs = c.args.definitions.now in
     let i = c.loop-row.row-index in
     let test : DefinitionRow → Bool = λ d. named_operation (head_of d) in
-    elim c.if-is-named-operation.branch [
-      | then-is-named-operation w ↦ (omega (arith, w.n-is), w.n-is ∙ ap (λ k. k + 1) c.loop-row.invariant.1 ∙ sym (count_by_more_yes test xs i no_definition_row c.loop-row-test.true (sym c.is-named-operation.ensures ∙ w.if-is-named-operation.true)))
-      | else-is-named-operation w ↦ (omega (arith, w.n-is), w.n-is ∙ c.loop-row.invariant.1 ∙ sym (count_by_more_no test xs i no_definition_row c.loop-row-test.true (sym c.is-named-operation.ensures ∙ w.if-is-named-operation.false)))
+    elim c.if-is_named_operation.branch [
+      | then-is_named_operation w ↦ (omega (arith, w.n-is), w.n-is ∙ ap (λ k. k + 1) c.loop-row.invariant.1 ∙ sym (count_by_more_yes test xs i no_definition_row c.loop-row-test.true (sym c.is_named_operation.ensures ∙ w.if-is_named_operation.true)))
+      | else-is_named_operation w ↦ (omega (arith, w.n-is), w.n-is ∙ c.loop-row.invariant.1 ∙ sym (count_by_more_no test xs i no_definition_row c.loop-row-test.true (sym c.is_named_operation.ensures ∙ w.if-is_named_operation.false)))
     ]
 
 pub returns : goal.returns

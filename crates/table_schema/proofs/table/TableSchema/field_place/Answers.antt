@@ -7,5 +7,5 @@ use Rattle.table_schema.proofs.table.TableSchema.field_place.Goals as goal
 pub returns : goal.returns
 returns c =
     let s = c.args.self.now in
-    found_in entry_key same_field field_hash (vec_items s.fields) c.as-slice-fields.result.now (vec_items s.field_slots) c.as-slice.result.now c.args.key c.find.result _
-    c.as-slice-fields.ensures.value c.as-slice.ensures.value c.find.ensures.answer (s.fields_found c.args.key)
+    found_in entry_key same_field field_hash (vec_items s.fields) c.as_slice-fields.result.now (vec_items s.field_slots) c.as_slice.result.now c.args.key c.find.result _
+    c.as_slice-fields.ensures.value c.as_slice.ensures.value c.find.ensures.answer (s.fields_found c.args.key)

@@ -14,22 +14,22 @@ use Rattle.table_schema.proofs.Founds.{finds_all}
 use Rattle.table_schema.proofs.Entries.{entry_keys, kept_means, owners_known, index_accepted}
 use Rattle.table_schema.proofs.table.TableSchema.new.Goals as goal
 
-pub invariant-of-result : goal.invariant-of-result
-invariant-of-result c =
+pub invariant_of-result : goal.invariant_of-result
+invariant_of-result c =
     let types = c.args.rows.now.types.now in
     let rows = c.args.rows.now.fields.now in
-    let kept-types = vec_items c.in-ok-types.types in
-    let kept-fields = vec_items c.in-ok-fields.fields in
-    let same-types : kept-types ≡ types = c.in-ok-types.ensures in
-    let same-fields : kept-fields ≡ entries_from 0 rows = c.in-ok-fields.ensures in
-    let told = c.in-ok-index-rows.ensures in
-    let fine = index_accepted types rows c.as-mut-slice.result.now c.as-mut-slice-2.result.now told.verdict in
-    let type-slots = with_items_is c.in-ok-type-slots.type-slots c.index-rows.new.type-slots (c.index-rows.auto.type-slots ∙ c.as-mut-slice.ensures.len) in
-    let field-slots = with_items_is c.in-ok-field-slots.field-slots c.index-rows.new.field-slots (c.index-rows.auto.field-slots ∙ c.as-mut-slice-2.ensures.len) in
+    let kept-types = vec_items c.in_ok-types.types in
+    let kept-fields = vec_items c.in_ok-fields.fields in
+    let same-types : kept-types ≡ types = c.in_ok-types.ensures in
+    let same-fields : kept-fields ≡ entries_from 0 rows = c.in_ok-fields.ensures in
+    let told = c.in_ok-index_rows.ensures in
+    let fine = index_accepted types rows c.as_mut_slice.result.now c.as_mut_slice-2.result.now told.verdict in
+    let type-slots = with_items_is c.in_ok-type_slots.type_slots c.index_rows.new.type_slots (c.index_rows.auto.type_slots ∙ c.as_mut_slice.ensures.len) in
+    let field-slots = with_items_is c.in_ok-field_slots.field_slots c.index_rows.new.field_slots (c.index_rows.auto.field_slots ∙ c.as_mut_slice-2.ensures.len) in
     let sound-types = subst (λ (slots : List ℕ). Sound same_name name_hash (map type_key kept-types) slots) (sym type-slots)
-    (subst (λ (keys : List ℕ). Sound same_name name_hash keys c.index-rows.new.type-slots) (sym (ap (map type_key) same-types)) told.slots.0) in
+    (subst (λ (keys : List ℕ). Sound same_name name_hash keys c.index_rows.new.type_slots) (sym (ap (map type_key) same-types)) told.slots.0) in
     let sound-fields = subst (λ (slots : List ℕ). Sound same_field field_hash (map entry_key kept-fields) slots) (sym field-slots)
-    (subst (λ (keys : List TypeField). Sound same_field field_hash keys c.index-rows.new.field-slots)
+    (subst (λ (keys : List TypeField). Sound same_field field_hash keys c.index_rows.new.field_slots)
     (sym (ap (map entry_key) same-fields ∙ entry_keys 0 rows)) told.slots.1) in (
       finds_all type_key same_name name_hash name_lawful kept-types _ sound-types,
       (
@@ -46,16 +46,16 @@ pub returns : goal.returns
 returns c =
     let types = c.args.rows.now.types.now in
     let rows = c.args.rows.now.fields.now in
-    let same-types : vec_items c.in-ok-types.types ≡ types = c.in-ok-types.ensures in
-    let same-fields : vec_items c.in-ok-fields.fields ≡ entries_from 0 rows = c.in-ok-fields.ensures in
-    let fine = index_accepted types rows c.as-mut-slice.result.now c.as-mut-slice-2.result.now c.in-ok-index-rows.ensures.verdict in (
+    let same-types : vec_items c.in_ok-types.types ≡ types = c.in_ok-types.ensures in
+    let same-fields : vec_items c.in_ok-fields.fields ≡ entries_from 0 rows = c.in_ok-fields.ensures in
+    let fine = index_accepted types rows c.as_mut_slice.result.now c.as_mut_slice-2.result.now c.in_ok-index_rows.ensures.verdict in (
       cond-false _ _ _ fine.0 ∙ fine.1,
       record {
         root = λ operation. refl;
         known = λ t. ap (λ ts. known_type ts t) same-types;
         kind = λ t. ap (λ ts. kind_of ts t) same-types;
         field = λ t f.
-            ap (λ ts. kept_field ts (vec_items c.in-ok-fields.fields) t f) same-types
+            ap (λ ts. kept_field ts (vec_items c.in_ok-fields.fields) t f) same-types
             ∙ ap (λ es. kept_field types es t f) same-fields
             ∙ kept_means types rows t f;
       },

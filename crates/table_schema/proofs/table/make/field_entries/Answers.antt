@@ -14,7 +14,7 @@ loop-i-preserved c =
     let row = get_or rows i no_field in
     let pushed : FieldEntry = record { key = c.key.result; definition = defined (i + 1) row.inner } in
     let same : pushed ≡ entry_of (i + 1) row = ap (λ k. record { key = k; definition = defined (i + 1) row.inner }) c.key.ensures in
-    c.in-ok-push.ensures.items
+    c.in_ok-push.ensures.items
     ∙ ap (λ es. es ++ pushed ∷ []) c.loop-i.invariant
     ∙ ap (λ e. entries_from 0 (take i rows) ++ e ∷ []) same
     ∙ sym (entries_more rows i c.loop-i-test.true)

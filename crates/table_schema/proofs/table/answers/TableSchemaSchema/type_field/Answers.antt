@@ -9,15 +9,15 @@ use Rattle.table_schema.proofs.table.answers.TableSchemaSchema.type_field.Goals 
 pub index-requires : goal.index-requires
 index-requires c =
     let s = c.args.self.now in
-    let hit = first_at (holds (field_key c.args.type-name c.args.field-name)) (vec_items s.fields) c.in-Some.i no_entry (sym c.in-Some.ensures) in
+    let hit = first_at (holds (field_key c.args.type_name c.args.field_name)) (vec_items s.fields) c.in-Some.i no_entry (sym c.in-Some.ensures) in
     omega (arith, hit.0, s.fields.ok.0)
 
 pub returns-in-Some : goal.returns-in-Some
 returns-in-Some c =
     let s = c.args.self.now in
     let entries = vec_items s.fields in
-    let t = c.args.type-name in
-    let f = c.args.field-name in
+    let t = c.args.type_name in
+    let f = c.args.field_name in
     let i = c.in-Some.i in
     let at = sym c.in-Some.ensures in
     let hit = first_at (holds (field_key t f)) entries i no_entry at in
