@@ -1,9 +1,9 @@
 -- The entries of rows: one more, where one is found, and what it answers.
-use Rattle.std.proofs.Common.{◌≡◌, ℕ, zero, suc, ◌+◌, ◌<◌, ◌≤◌, Bool, true, false, cond, ◌&&◌, ◌||◌, eqb, List, [], ◌∷◌, ◌++◌, map, length, get_or, take, is_some, Some, None, Ok, Err, Option, sym, refl, ap, ◌∙◌, subst, arith}
-use Rattle.std.proofs.lemmas.List.{take_more, length-take-le}
+use Rattle.std.proofs.Common.{◌≡◌, ℕ, zero, suc, ◌+◌, ◌<◌, ◌≤◌, Bool, true, false, cond, ◌&&◌, ◌||◌, eqb, List, [], ◌∷◌, ◌++◌, map, length, replicate, get_or, take, is_some, Some, None, Ok, Err, Option, sym, refl, ap, ◌∙◌, subst, arith}
+use Rattle.std.proofs.lemmas.List.{take_more, length-take-le, length-replicate}
 use Rattle.table_schema.specs.declared.rows.FieldRow.{FieldRow}
 use Rattle.table_schema.specs.declared.rows.FieldEntry.{FieldEntry}
-use Rattle.std.proofs.lemmas.Bool.{false≢true}
+use Rattle.std.proofs.lemmas.Bool.{false≢true, and_from, eq-eqb}
 use Rattle.ordered_index.specs.Firsts.{first_place}
 use Rattle.schema.specs.declared.answers.FieldLookupError.TheVariants.{NoSuchType}
 use Rattle.schema.specs.Meta.{defined}
@@ -14,7 +14,8 @@ use Rattle.table_schema.specs.declared.fault.SchemaFault.TheVariants.{OverLimit,
 use Rattle.table_schema.specs.Keys.{field_key, row_key, entry_key}
 use Rattle.table_schema.specs.Meaning.{no_field, named, owns, known_type, kind_there, kind_of, field_there, field_of}
 use Rattle.refusal.specs.Firsts.{verdict_of}
-use Rattle.table_schema.specs.Verdict.{owns_fields, field_fault_at, types_fault, fields_fault, rows_fault, over_limit, empty_index, index_fault}
+use Rattle.table_schema.specs.Verdict.{owns_fields, field_fault_at, types_fault, fields_fault, rows_fault, over_limit, zeros, empty_index, index_fault}
+use Rattle.table_schema.specs.Table.{schema_fault}
 use Rattle.table_schema.specs.Kept.{no_entry, holds, entry_there, kept_field, entry_of, entries_from, OwnersKnown}
 use Rattle.refusal.proofs.Firsts.{no_fault, or_else_none}
 use Rattle.table_schema.proofs.Founds.{first_at}
@@ -94,3 +95,22 @@ accepted false true (Some fault) is = let z : ◌≡◌ {A = ℕ} 0 1 = cc in ab
 -- rows that were indexed keep their limits and have no fault
 pub index_accepted : (types : List TypeRow) (rows : List FieldRow) (a b : List ℕ) → Ok tt ≡ verdict_of (index_fault types rows a b) → (over_limit types rows ≡ false) × (rows_fault types rows ≡ None)
 index_accepted types rows a b is = accepted (over_limit types rows) (empty_index 2048 a && empty_index 8192 b) (rows_fault types rows) is
+
+-- rows that are indexed in empty slots are refused for their own fault
+zeros_of : (n : ℕ) → zeros (replicate n 0) ≡ true
+zeros_of zero = refl
+zeros_of (suc n) = zeros_of n
+
+empty_of : (n : ℕ) (slots : List ℕ) → slots ≡ replicate n 0 → empty_index n slots ≡ true
+empty_of n slots is = ap (empty_index n) is ∙ and_from _ _ (eq-eqb _ _ (length-replicate n 0)) (zeros_of n)
+
+refused : (o e : Bool) (r : Option SchemaFault) (fault : SchemaFault) → e ≡ true → Err fault ≡ verdict_of (cond o (Some OverLimit) (cond e r (Some SlotsUnfit))) → cond o (Some OverLimit) r ≡ Some fault
+refused true e r fault empty is = cc
+refused false true None fault empty is = cc
+refused false true (Some f) fault empty is = cc
+refused false false r fault empty is = cc
+
+pub index_refused : (types : List TypeRow) (rows : List FieldRow) (a b : List ℕ) (fault : SchemaFault) → a ≡ replicate 2048 0 → b ≡ replicate 8192 0 → Err fault ≡ verdict_of (index_fault types rows a b) → schema_fault types rows ≡ Some fault
+index_refused types rows a b fault here there is =
+    refused (over_limit types rows) (empty_index 2048 a && empty_index 8192 b) (rows_fault types rows) fault
+    (and_from _ _ (empty_of 2048 a here) (empty_of 8192 b there)) is
