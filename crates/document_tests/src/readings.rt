@@ -90,7 +90,7 @@ fn set_is(
     let mut rest = set;
     for place in places {
         let step = document.next_selection(rest).ok_or("the set is too short")?;
-        assert_eq!(rt; step.place, *place);
+        assert_eq!(rt; step.place, *place, "{} of {} places", place, places.len());
         assert_eq!(rt; step.row.name as usize, *place + 10);
         rest = step.after;
     }
@@ -140,9 +140,7 @@ fn sets_of_selections(rt: HostRuntime) -> Result<(), Fail> {
     };
     for (definition, steps, places) in SETS {
         let set = set_beneath(&document, definition, steps);
-        set_is(&rt, &document, set, places)
-            .note(definition)
-            .note(steps)?;
+        set_is(&rt, &document, set, places)?;
     }
     Ok(())
 }

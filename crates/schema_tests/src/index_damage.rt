@@ -24,7 +24,7 @@ fn filled<E: Entry + Clone>(
     let mut entries = new.to_vec(heap)?;
     let mut slots = vec![in heap; 0u32; slots_after.len()]?;
     fill(rt, entries.as_mut_slice(), slots.as_mut_slice(), new)?;
-    assert_eq!(rt; slots, slots_after);
+    assert_eq!(rt; slots.as_slice(), slots_after);
     Ok(())
 }
 
@@ -41,7 +41,7 @@ fn names_that_meet(rt: HostRuntime) -> Result<(), Fail> {
     ];
     for (names, slots) in cases {
         let new = named(rt.alloc(), &names)?;
-        filled(&rt, rt.alloc(), new.as_slice(), &slots).note(names[0])?;
+        filled(&rt, rt.alloc(), new.as_slice(), &slots)?;
     }
     Ok(())
 }
@@ -68,7 +68,8 @@ fn each_slot_matters(rt: &impl Abort, entries: &[Named], slots: &mut [u32]) -> R
             assert_eq!(rt;
                 agrees(entries, entries.len(), slots),
                 other == held,
-                "{}",
+                "{} names; slot {}",
+                entries.len(),
                 s
             );
         }
@@ -84,8 +85,8 @@ fn one_slot_damaged(rt: HostRuntime) -> Result<(), Fail> {
         let entries = named(rt.alloc(), &names)?;
         let mut slots = [0u32; 8];
         let mut room = entries.as_slice().to_vec(rt.alloc())?;
-        fill(&rt, room.as_mut_slice(), &mut slots, entries.as_slice()).note(names[0])?;
-        each_slot_matters(&rt, entries.as_slice(), &mut slots).note(names[0])?;
+        fill(&rt, room.as_mut_slice(), &mut slots, entries.as_slice())?;
+        each_slot_matters(&rt, entries.as_slice(), &mut slots)?;
     }
     Ok(())
 }

@@ -137,7 +137,7 @@ fn full_index<E: Entry + Clone + PartialEq>(
         slots.as_mut_slice(),
         absent,
     );
-    assert!(rt; entries == filled && slots == used);
+    assert!(rt; entries == filled && slots == used, "limit {}", limit);
     Ok(())
 }
 
@@ -159,8 +159,7 @@ fn names_to_the_limit(rt: HostRuntime) -> Result<(), Fail> {
             present.as_slice(),
             &absent,
             limit,
-        )
-        .note(limit)?;
+        )?;
     }
     Ok(())
 }
@@ -187,8 +186,7 @@ fn fields_to_the_limit(rt: HostRuntime) -> Result<(), Fail> {
             present.as_slice(),
             &absent,
             limit,
-        )
-        .note(limit)?;
+        )?;
     }
     Ok(())
 }

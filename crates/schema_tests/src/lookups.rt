@@ -151,7 +151,7 @@ fn in_type(
     for i in 0..8 {
         fields(rt, layer, &[(type_name, ASKED[i], expected[i])])?;
         let lent = field_or_meta_field(&layer.lower, type_name, ASKED[i]);
-        assert_eq!(rt; found(lent), expected[i], "{}", i);
+        assert_eq!(rt; found(lent), expected[i], "{}; {}", type_name, i);
     }
     Ok(())
 }
@@ -200,7 +200,7 @@ fn fields_of_every_type(rt: HostRuntime) -> Result<(), Fail> {
         lower: table(rt.alloc(), &FIELDS, QUERY)?,
     };
     for (type_name, expected) in EVERY_TYPE {
-        in_type(&rt, &layer, type_name, &expected).note(type_name)?;
+        in_type(&rt, &layer, type_name, &expected)?;
     }
     Ok(())
 }
@@ -297,7 +297,7 @@ fn other_query_roots(rt: HostRuntime) -> Result<(), Fail> {
             (QUERY, TYPENAME_FIELD, TYPENAME),
             (METER, SCHEMA_FIELD, in_meter),
         ];
-        fields(&rt, &layer, &cases).note(query)?;
+        fields(&rt, &layer, &cases)?;
     }
     Ok(())
 }

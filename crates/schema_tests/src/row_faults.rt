@@ -32,7 +32,7 @@ fn each(rt: &impl Abort, heap: Global, cases: &[Case]) -> Result<(), Fail> {
         let types = type_rows(heap, types)?;
         let fields = field_rows(heap, fields)?;
         let rows = rootless(types.as_slice(), fields.as_slice());
-        come_to(rt, heap, &rows, told(number, row)).note(i)?;
+        come_to(rt, heap, &rows, told(number, row))?;
     }
     Ok(())
 }
@@ -176,9 +176,7 @@ fn sizes(rt: HostRuntime) -> Result<(), Fail> {
         (1023, 4096, false, 8, 1024),
     ];
     for (types, fields, damaged, number, row) in cases {
-        sized(&rt, rt.alloc(), types, fields, damaged, number, row)
-            .note(types)
-            .note(fields)?;
+        sized(&rt, rt.alloc(), types, fields, damaged, number, row)?;
     }
     Ok(())
 }

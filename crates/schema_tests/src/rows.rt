@@ -115,7 +115,13 @@ pub fn come_to(
     let mut type_slots = vec![in heap; 0u32; 2048]?;
     let mut field_slots = vec![in heap; 0u32; 8192]?;
     let verdict = refused(index_rows(rows, type_slots.as_mut_slice(), field_slots.as_mut_slice()));
-    assert_eq!(rt; verdict, expected);
+    assert_eq!(rt;
+        verdict,
+        expected,
+        "{} types, {} fields",
+        rows.types.len(),
+        rows.fields.len()
+    );
     if expected.is_some() {
         assert!(rt; all_empty(type_slots.as_slice()) && all_empty(field_slots.as_slice()));
     }
@@ -123,6 +129,12 @@ pub fn come_to(
         Ok(_) => None,
         Err(fault) => Some(fault.refusal()),
     };
-    assert_eq!(rt; made, expected);
+    assert_eq!(rt;
+        made,
+        expected,
+        "{} types, {} fields",
+        rows.types.len(),
+        rows.fields.len()
+    );
     Ok(())
 }

@@ -19,12 +19,11 @@ fn slots_but(heap: Global, size: usize, used: usize) -> Result<Vec<u32>, AllocEr
 const NONE: usize = usize::MAX;
 
 // Slots of both indexes: how many, and which one is in use.
+#[derive(Clone, Copy)]
 struct Lent {
     type_slots: (usize, usize),
     field_slots: (usize, usize),
 }
-
-impl Copy for Lent {}
 
 // So many types, with no field, in these slots: the refusal's number, and the slots stay.
 fn unfit(rt: &impl Abort, heap: Global, lent: Lent, count: u32, number: u32) -> Result<(), Fail> {
@@ -41,7 +40,10 @@ fn unfit(rt: &impl Abort, heap: Global, lent: Lent, count: u32, number: u32) -> 
             number,
             layer: Layer::Schema,
             row: 0,
-        })
+        }),
+        "{} slots for types, {} for fields",
+        lent.type_slots.0,
+        lent.field_slots.0
     );
     assert!(rt; type_slots == types_before && field_slots == fields_before);
     Ok(())
@@ -72,9 +74,9 @@ fn slots_unfit(rt: HostRuntime) -> Result<(), Fail> {
             type_slots,
             field_slots,
         };
-        unfit(&rt, rt.alloc(), lent, 3, 15).note(i)?;
+        unfit(&rt, rt.alloc(), lent, 3, 15)?;
         // sizes of the rows before the slots
-        unfit(&rt, rt.alloc(), lent, 1025, 1).note(i)?;
+        unfit(&rt, rt.alloc(), lent, 1025, 1)?;
     }
     Ok(())
 }
