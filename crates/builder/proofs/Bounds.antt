@@ -12,7 +12,7 @@ use Rattle.schema.specs.Meaning.{Meaning}
 use Rattle.selection_rules.specs.declared.settling.Settled.{Settled}
 use Rattle.selection_rules.specs.declared.settling.Settled.TheVariants.{Kept, Dropped, Faulty}
 use Rattle.selection_rules.specs.Stored.{Form, field, spread, inline, form_of, Stored}
-use Rattle.selection_rules.specs.Settle.{settled}
+use Rattle.selection_rules.specs.Sets.{settled_in}
 use Rattle.selection_rules.specs.Errors.{Path, Error, keys_of, keys_in}
 use Rattle.selection_rules.specs.Sets.{path_in, path_to, some_row, error_of, listed, errors, keep, build}
 use Rattle.builder.proofs.Outputs.{fault_keys, keys_joined}
@@ -34,7 +34,7 @@ kept_few (Faulty fault) p around s below after lower later b k few rest = omega 
 pub set_few : (m : Meaning) (p : Path) (around : ℕ) (f : Forest Selection) → size (build m around f) + length (errors m p around f) ≤ size f
 set_few m p around none = omega arith
 set_few m p around (row s below after) =
-    kept_few (settled m around s (some_row below)) (path_to p s) around s (λ inner. build m inner below) (build m around after)
+    kept_few (settled_in m around s (some_row below)) (path_to p s) around s (λ inner. build m inner below) (build m around after)
     (λ inner. errors m (path_to p s) inner below) (errors m p around after) (size below) (size after)
     (λ inner. set_few m (path_to p s) inner below) (set_few m p around after)
 
@@ -60,7 +60,7 @@ listed_few (Faulty fault) p around s lower later w b k own few rest =
 pub keys_few : (m : Meaning) (p : Path) (around : ℕ) (f : Forest Selection) → length (keys_in (errors m p around f)) ≤ path_keys (length p.keys) f
 keys_few m p around none = omega arith
 keys_few m p around (row s below after) =
-    listed_few (settled m around s (some_row below)) (path_to p s) around s (λ inner. errors m (path_to p s) inner below) (errors m p around after)
+    listed_few (settled_in m around s (some_row below)) (path_to p s) around s (λ inner. errors m (path_to p s) inner below) (errors m p around after)
     (way (length p.keys) s) (path_keys (way (length p.keys) s) below) (path_keys (length p.keys) after) (path_way p s)
     (λ inner. subst (λ (n : ℕ). length (keys_in (errors m (path_to p s) inner below)) ≤ path_keys n below) (path_way p s) (keys_few m (path_to p s) inner below))
     (keys_few m p around after)

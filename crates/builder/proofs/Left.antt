@@ -16,7 +16,7 @@ use Rattle.selection_rules.specs.declared.settling.SelectionFault.{SelectionFaul
 use Rattle.selection_rules.specs.declared.settling.Settled.{Settled}
 use Rattle.selection_rules.specs.declared.settling.Settled.TheVariants.{Kept, Dropped, Faulty}
 use Rattle.selection_rules.specs.Stored.{Stored, stored_in, stored_row}
-use Rattle.selection_rules.specs.Settle.{settled}
+use Rattle.selection_rules.specs.Sets.{settled_in}
 use Rattle.selection_rules.specs.Errors.{Path, Error, keys_of, keys_in, error_rows}
 use Rattle.selection_rules.specs.Sets.{path_to, some_row, error_of, listed, errors, keep, build}
 use Rattle.builder.specs.declared.filled.Filled.{Filled}
@@ -122,7 +122,7 @@ module _ (m : Meaning) (handed : List SelectionRow) (set₀ : SelectionSet) (aro
 
   -- a selection that is left out without an error
   pub dropped : (rest : SelectionSet) (o : Output) (w : Left rest o) (step : SelectionStep) (t : Turn rest w.left step)
-      → settled m around (selection_of step.row) (some_row t.below) ≡ Dropped → Left step.after o
+      → settled_in m around (selection_of step.row) (some_row t.below) ≡ Dropped → Left step.after o
   dropped rest o w step t out =
       let s = selection_of step.row in
       let room = w.room in
@@ -150,7 +150,7 @@ module _ (m : Meaning) (handed : List SelectionRow) (set₀ : SelectionSet) (aro
 
   -- a selection that is left out with an error
   pub faulty : length p.keys ≡ above → (rest : SelectionSet) (o : Output) (w : Left rest o) (step : SelectionStep) (t : Turn rest w.left step) (fault : SelectionFault)
-      → settled m around (selection_of step.row) (some_row t.below) ≡ Faulty fault
+      → settled_in m around (selection_of step.row) (some_row t.below) ≡ Faulty fault
       → (b : Output) → b ≡ with_set o none (error_of fault (path_to p (selection_of step.row)) around (selection_of step.row) ∷ []) → Left step.after b
   faulty even rest o w step t fault out b is =
       let s = selection_of step.row in
@@ -208,7 +208,7 @@ module _ (m : Meaning) (handed : List SelectionRow) (set₀ : SelectionSet) (aro
 
   -- a selection that is kept, with what its set's build gave
   pub kept : length p.keys ≡ above → (rest : SelectionSet) (o : Output) (w : Left rest o) (step : SelectionStep) (t : Turn rest w.left step) (place inner : ℕ)
-      → settled m around (selection_of step.row) (some_row t.below) ≡ Kept place inner
+      → settled_in m around (selection_of step.row) (some_row t.below) ≡ Kept place inner
       → (b : Output) → b ≡ with_set (opened_with o (stored_row (stored_in (selection_of step.row) place inner) 0)) (build m inner t.below) (errors m (path_to p (selection_of step.row)) inner t.below)
       → Left step.after (closed_with b o.filled.rows (stored_in (selection_of step.row) place inner))
   kept even rest o w step t place inner out b is =

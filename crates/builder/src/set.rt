@@ -1,6 +1,7 @@
 // The build of one set of selections: what is kept is stored in order, what is faulty is listed with its path.
 ghost use Rattle.std.specs.Prelude.{◌≡◌, ℕ, ◌+◌, ◌<◌, ◌≤◌, List, [], ◌∷◌, length};
 ghost use Rattle.layout.specs.Forest.{Forest, none};
+ghost use Rattle.schema.specs.Meaning.{meaning};
 ghost use Rattle.document.specs.Rows.{Selection, selection_of};
 ghost use Rattle.document.specs.Sets.{Holds};
 ghost use Rattle.selection_rules.specs.declared.stored.StoredRow.{StoredRow};
@@ -88,7 +89,7 @@ pub fn build_set<S: Schema>(
     filled: Filled,
 ) -> Filled
     requires room { (f : Forest Selection) × Room document.now.rows.now set path.depth (output rows.old errors.old path_keys.old filled) f }
-    ensures { (f : Forest Selection) → Holds document.now.rows.now set f → output rows.new errors.new path_keys.new result ≡ with_set (output rows.old errors.old path_keys.old filled) (build (S.Schema.meaning schema.now) around f) (errors-of (S.Schema.meaning schema.now) (path_of path) around f) }
+    ensures { (f : Forest Selection) → Holds document.now.rows.now set f → output rows.new errors.new path_keys.new result ≡ with_set (output rows.old errors.old path_keys.old filled) (build (meaning (S.Schema.root schema.now) (S.Schema.known schema.now) (S.Schema.sort schema.now) (S.Schema.field schema.now)) around f) (errors-of (meaning (S.Schema.root schema.now) (S.Schema.known schema.now) (S.Schema.sort schema.now) (S.Schema.field schema.now)) (path_of path) around f) }
 {
     let mut done = filled;
     let mut rest = set;

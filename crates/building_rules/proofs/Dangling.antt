@@ -6,9 +6,9 @@ use Rattle.layout.specs.Forest.{none}
 use Rattle.schema.specs.declared.answers.FieldDefinition.{FieldDefinition}
 use Rattle.schema.specs.declared.answers.FieldLookupError.{FieldLookupError}
 use Rattle.schema.specs.declared.answers.FieldLookupError.TheVariants.{NoSuchType}
-use Rattle.schema.specs.Law.{Lawful, Closed}
+use Rattle.schema.specs.Law.{Lawful}
 use Rattle.schema.specs.Meta.{defined}
-use Rattle.schema.specs.Open.{open_meaning}
+use Rattle.schema.specs.Meaning.{Closed, open_meaning}
 use Rattle.building_rules.specs.Rules.{of_root, of_field, Stands}
 use Rattle.building_rules.specs.Needed.{nested, twice, ClosedIsNeeded, SomeAreValid}
 use Rattle.building_rules.proofs.Rows.{no_cons}
@@ -29,7 +29,7 @@ closed_is_needed =
           let z : ◌≡◌ {A = ℕ} 0 1 = cc in omega arith;
     }
 
-lawful : Lawful open_meaning
+lawful : Lawful open_meaning.known open_meaning.sort open_meaning.field
 lawful =
     record {
       unknown = λ t f e. absurd (let z : ◌≡◌ {A = ℕ} 0 1 = cc in omega arith);

@@ -13,7 +13,7 @@ use Rattle.selection_rules.specs.declared.settling.SelectionFault.TheVariants.{U
 use Rattle.selection_rules.specs.declared.settling.Settled.{Settled}
 use Rattle.selection_rules.specs.declared.settling.Settled.TheVariants as settles
 use Rattle.selection_rules.specs.Stored.{field, spread, inline, form_of, Stored}
-use Rattle.selection_rules.specs.Settle.{settled}
+use Rattle.selection_rules.specs.Sets.{settled_in}
 use Rattle.selection_rules.specs.Errors.{Path, Error, keys_of, keys_in}
 use Rattle.selection_rules.specs.Sets.{path_in, path_to, some_row, error_of, listed, errors, keep, build}
 use Rattle.building_rules.specs.Definitions.{Accepted, accepted_from, Role, anonymous_operation, named_operation, fragment, type_system, role_of, operation_of, start_path, Kept, Taken, taken_at, State, with_anonymous, with_operation, with_fragment, with_multiple, Outcome, left_out, stored, rooted, add_anonymous, add_named, add_fragment, add_type_system, beside, before, step_of, step, errors_from, kept_from}
@@ -63,7 +63,7 @@ module _ (m : Meaning) where
   pub errors_few : (p : Path) (around : ℕ) (f : Forest Selection) → length (errors m p around f) ≤ size f
   errors_few p around none = omega arith
   errors_few p around (row s below after) =
-      let one = listed_few (settled m around s (some_row below)) (path_to p s) around s (λ inner. errors m (path_to p s) inner below) (size below) (λ inner. errors_few (path_to p s) inner below) in
+      let one = listed_few (settled_in m around s (some_row below)) (path_to p s) around s (λ inner. errors m (path_to p s) inner below) (size below) (λ inner. errors_few (path_to p s) inner below) in
       let rest = errors_few p around after in
       simp length-append (omega arith)
 
@@ -75,7 +75,7 @@ module _ (m : Meaning) where
       let long = way_long p s in
       let lower : (inner : ℕ) → length (keys_in (errors m q inner below)) ≤ path_keys (way (length p.keys) s) below =
       λ inner. rw long at (keys_few q inner below) in
-      let one = listed_keys (settled m around s (some_row below)) q around s (λ inner. errors m q inner below) _ lower in
+      let one = listed_keys (settled_in m around s (some_row below)) q around s (λ inner. errors m q inner below) _ lower in
       let rest = keys_few p around after in
       rw keys_join (simp length-append (omega arith))
 
@@ -83,7 +83,7 @@ module _ (m : Meaning) where
   pub build_small : (around : ℕ) (f : Forest Selection) → size (build m around f) ≤ size f
   build_small around none = omega arith
   build_small around (row s below after) =
-      let one = keep_small (settled m around s (some_row below)) s (λ inner. build m inner below) (build m around after) (size below) (λ inner. build_small inner below) in
+      let one = keep_small (settled_in m around s (some_row below)) s (λ inner. build m inner below) (build m around after) (size below) (λ inner. build_small inner below) in
       let rest = build_small around after in
       omega arith
 

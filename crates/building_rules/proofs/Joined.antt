@@ -6,8 +6,8 @@ use Rattle.std.specs.List.{AllByRecursion as All}
 use Rattle.layout.specs.Forest.{Forest, none}
 use Rattle.document.specs.Rows.{Selection}
 use Rattle.schema.specs.declared.answers.FieldDefinition.{FieldDefinition}
-use Rattle.schema.specs.Meaning.{Meaning}
-use Rattle.schema.specs.Law.{Lawful, Closed}
+use Rattle.schema.specs.Meaning.{Meaning, Closed}
+use Rattle.schema.specs.Law.{Lawful}
 use Rattle.selection_rules.specs.Stored.{field, inline, form_of}
 use Rattle.selection_rules.specs.Sets.{errors}
 use Rattle.building_rules.specs.Definitions.{Accepted, Role, anonymous_operation, named_operation, fragment, type_system, role_of, operation_of, start_path, fresh}
@@ -45,7 +45,7 @@ module _ (m : Meaning) (d : Accepted) where
   fragment_of fragment l e = l
   fragment_of type_system l e = absurd (false≢true e)
 
-  module _ (law : Lawful m) (closed : Closed m) (l : Local m d (role_of d.head)) where
+  module _ (law : Lawful m.known m.sort m.field) (closed : Closed m) (l : Local m d (role_of d.head)) where
     around_fine : (t : ℕ) → Around m d t → (m.known t ≡ true) × (errors m (start_path d.head) t d.selected ≡ [])
     around_fine t (of_root v o e) =
         let r = rooted_of (role_of d.head) l o in

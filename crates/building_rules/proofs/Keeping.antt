@@ -5,7 +5,7 @@ use Rattle.document.specs.Rows.{Selection}
 use Rattle.schema.specs.Meaning.{Meaning}
 use Rattle.selection_rules.specs.declared.settling.Settled.{Settled}
 use Rattle.selection_rules.specs.Stored.{Form, form_of, Stored, stored_in}
-use Rattle.selection_rules.specs.Settle.{settled}
+use Rattle.selection_rules.specs.Sets.{settled_in}
 use Rattle.selection_rules.specs.Sets.{some_row, keep, build}
 use Rattle.building_rules.specs.Rules.{Inside}
 use Rattle.building_rules.specs.Whole.{handed}
@@ -59,15 +59,15 @@ module _ (m : Meaning) (x : Stored) where
   kept_of : (around : ℕ) (f : Forest Selection) → Occurs x (build m around f) → KeptAs m around f x
   kept_of around none o = elim o [ ]
   kept_of around (row s below after) o =
-      kept_as around s below after (settled m around s (some_row below)) (view m around s below) (λ inner. kept_of inner below) (kept_of around after) o
+      kept_as around s below after (settled_in m around s (some_row below)) (view m around s below) (λ inner. kept_of inner below) (kept_of around after) o
 
   occurs_of : {around : ℕ} {f : Forest Selection} {t : ℕ} {s : Selection} {below : Forest Selection} → Keeps m around f t s below → StoredAs m t s x → Occurs x (build m around f)
   occurs_of (Keeps.here {around} {s} {below} {after} fit) at =
-      occurs_here around s below after (settled m around s (some_row below)) (view m around s below) fit at
+      occurs_here around s below after (settled_in m around s (some_row below)) (view m around s below) fit at
   occurs_of (Keeps.later {around} {b} {under} {after} k) at =
-      occurs_later around b under after (settled m around b (some_row under)) (view m around b under) (occurs_of k at)
+      occurs_later around b under after (settled_in m around b (some_row under)) (view m around b under) (occurs_of k at)
   occurs_of (Keeps.deeper {around} {b} {under} {after} inner fit inside k) at =
-      occurs_deeper around b under after (settled m around b (some_row under)) (view m around b under) inner fit inside (occurs_of k at)
+      occurs_deeper around b under after (settled_in m around b (some_row under)) (view m around b under) inner fit inside (occurs_of k at)
 
 pub kept_exactly : KeptExactly
 kept_exactly m around f x = (kept_of m x around f, λ k. occurs_of m x k.keeps k.shape)
@@ -82,4 +82,4 @@ part_row m around s below after w (faults fault unfit) lower next = Part.left_ou
 pub kept_in_order : KeptInOrder
 kept_in_order m around none = Part.nothing
 kept_in_order m around (row s below after) =
-    part_row m around s below after (settled m around s (some_row below)) (view m around s below) (λ inner. kept_in_order m inner below) (kept_in_order m around after)
+    part_row m around s below after (settled_in m around s (some_row below)) (view m around s below) (λ inner. kept_in_order m inner below) (kept_in_order m around after)

@@ -4,12 +4,12 @@ use Rattle.std.proofs.lemmas.Bool.{eqb-true, eqb-false}
 use Rattle.layout.specs.Forest.{Forest, none, row}
 use Rattle.document.specs.Rows.{Selection}
 use Rattle.schema.specs.declared.answers.FieldDefinition.{FieldDefinition}
-use Rattle.schema.specs.Meaning.{Meaning}
-use Rattle.schema.specs.Law.{Lawful, Closed}
+use Rattle.schema.specs.Meaning.{Meaning, Closed}
+use Rattle.schema.specs.Law.{Lawful}
 use Rattle.selection_rules.specs.declared.settling.Settled.{Settled}
 use Rattle.selection_rules.specs.declared.settling.Settled.TheVariants.{Kept}
 use Rattle.selection_rules.specs.Stored.{Form, field, spread, inline, form_of, stored_in}
-use Rattle.selection_rules.specs.Settle.{settled}
+use Rattle.selection_rules.specs.Sets.{settled_in}
 use Rattle.selection_rules.specs.Errors.{Path, Error}
 use Rattle.selection_rules.specs.Sets.{path_to, some_row, listed, errors, keep, build}
 use Rattle.building_rules.specs.Rules.{Inside, of_field, of_condition, of_around, of_spread, Stands, Within, Leaf}
@@ -78,7 +78,7 @@ module _ (m : Meaning) (t : ℕ) (s : Selection) (below : Forest Selection) wher
       pub inside : Inside m t s inner
       pub next : (i : ℕ) → Inside m t s i → (k i ≡ []) × (m.known i ≡ true)
 
-    fine_as : Lawful m → Closed m → m.known t ≡ true → (v : Form) (w : Settled) → View m t s below v w → listed w p t s k ≡ [] → Fine w
+    fine_as : Lawful m.known m.sort m.field → Closed m → m.known t ≡ true → (v : Form) (w : Settled) → View m t s below v w → listed w p t s k ≡ [] → Fine w
     fine_as law closed known v w (stays place inner fit inside one_inside shape one-shape) h =
         record {
           fit = fit;
@@ -91,8 +91,8 @@ module _ (m : Meaning) (t : ℕ) (s : Selection) (below : Forest Selection) wher
     fine_as law closed known v w (drops e unfit) h = absurd (law.present t s.name known e)
     fine_as law closed known v w (faults fault unfit) h = no_cons _ _ h
 
-    pub fine : Lawful m → Closed m → m.known t ≡ true → listed (settled m t s (some_row below)) p t s k ≡ [] → Fine (settled m t s (some_row below))
-    fine law closed known h = fine_as law closed known (form_of s) (settled m t s (some_row below)) (view m t s below) h
+    pub fine : Lawful m.known m.sort m.field → Closed m → m.known t ≡ true → listed (settled_in m t s (some_row below)) p t s k ≡ [] → Fine (settled_in m t s (some_row below))
+    fine law closed known h = fine_as law closed known (form_of s) (settled_in m t s (some_row below)) (view m t s below) h
 
     -- the other way: a fit selection lists nothing if nothing is listed beneath it
     clean_as : (v : Form) (w : Settled) → View m t s below v w → Fit m t s below → ((i : ℕ) → Inside m t s i → k i ≡ []) → listed w p t s k ≡ []
@@ -100,17 +100,17 @@ module _ (m : Meaning) (t : ℕ) (s : Selection) (below : Forest Selection) wher
     clean_as v w (drops e unfit) is next = absurd (unfit is)
     clean_as v w (faults fault unfit) is next = absurd (unfit is)
 
-    pub clean : Fit m t s below → ((i : ℕ) → Inside m t s i → k i ≡ []) → listed (settled m t s (some_row below)) p t s k ≡ []
-    clean is next = clean_as (form_of s) (settled m t s (some_row below)) (view m t s below) is next
+    pub clean : Fit m t s below → ((i : ℕ) → Inside m t s i → k i ≡ []) → listed (settled_in m t s (some_row below)) p t s k ≡ []
+    clean is next = clean_as (form_of s) (settled_in m t s (some_row below)) (view m t s below) is next
 
 module _ (m : Meaning) where
   -- what is listed beneath a selection
   abbrev beneath : Path → Selection → Forest Selection → ℕ → List Error
   beneath p s below = λ inner. errors m (path_to p s) inner below
 
-  module _ (law : Lawful m) (closed : Closed m) where
+  module _ (law : Lawful m.known m.sort m.field) (closed : Closed m) where
     fine_row : (p : Path) (around : ℕ) (s : Selection) (below after : Forest Selection) → m.known around ≡ true → errors m p around (row s below after) ≡ []
-        → Fine m around s below (path_to p s) (beneath p s below) (settled m around s (some_row below)) × (errors m p around after ≡ [])
+        → Fine m around s below (path_to p s) (beneath p s below) (settled_in m around s (some_row below)) × (errors m p around after ≡ [])
     fine_row p around s below after known e =
         let two = both_nil _ _ e in
         (fine m around s below (path_to p s) (beneath p s below) law closed known two.0, two.1)

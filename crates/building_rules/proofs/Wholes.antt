@@ -1,8 +1,8 @@
 -- Of a valid document everything is kept.
 use Rattle.std.proofs.Common.{◌≡◌, ℕ, Bool, true, false, cond, ◌||◌, List, [], ◌∷◌, ◌++◌, map, Some, None, filter, Option, refl, ap, ◌∙◌}
 use Rattle.document.specs.Document.{Definition}
-use Rattle.schema.specs.Meaning.{Meaning}
-use Rattle.schema.specs.Law.{Lawful, Closed}
+use Rattle.schema.specs.Meaning.{Meaning, Closed}
+use Rattle.schema.specs.Law.{Lawful}
 use Rattle.building_rules.specs.Definitions.{Accepted, Role, anonymous_operation, named_operation, fragment, type_system, role_of, operation_of, start_path, Kept, Taken, taken_at, State, fresh, with_anonymous, with_operation, rooted, add_anonymous, add_named, add_fragment, beside, step_of, step, errors_from, kept_from}
 use Rattle.building_rules.specs.Rules.{operation_role, fragment_role, is_executable, Valid}
 use Rattle.building_rules.specs.Whole.{handed_for, definition_of, ValidIsKeptWhole}
@@ -21,7 +21,7 @@ front f false x xs = refl
 abbrev Left : Accepted → Bool → List Kept → Type 0
 Left d b ks = map handed_for ks ≡ map definition_of (cond b (d ∷ []) [])
 
-module _ (m : Meaning) (law : Lawful m) (closed : Closed m) (d : Accepted) where
+module _ (m : Meaning) (law : Lawful m.known m.sort m.field) (closed : Closed m) (d : Accepted) where
   whole : (around : ℕ) → m.known around ≡ true → (rooted m d (Some around) fresh fresh).errors ≡ [] → Left d true (rooted m d (Some around) fresh fresh).kept
   whole around known h =
       ap (λ f. record { head = d.head; selected = f } ∷ []) (all_kept m law closed (start_path d.head) around d.selected known h)
@@ -50,7 +50,7 @@ module _ (m : Meaning) (law : Lawful m) (closed : Closed m) (d : Accepted) where
   step_left s fragment h = fragment_left s (taken_at d.head.name s.fragments) (m.known d.head.condition) refl h
   step_left s type_system h = refl
 
-kept_whole : (m : Meaning) → Lawful m → Closed m → (s : State) (ds : List Accepted) → errors_from m s ds ≡ [] → map handed_for (kept_from m s ds) ≡ map definition_of (filter is_executable ds)
+kept_whole : (m : Meaning) → Lawful m.known m.sort m.field → Closed m → (s : State) (ds : List Accepted) → errors_from m s ds ≡ [] → map handed_for (kept_from m s ds) ≡ map definition_of (filter is_executable ds)
 kept_whole m law closed s [] h = refl
 kept_whole m law closed s (d ∷ ds) h =
     let two = both_nil (step m s d).errors _ h in

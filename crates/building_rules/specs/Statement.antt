@@ -1,7 +1,7 @@
 -- No error is listed exactly when the definitions keep the eight rules.
 use Rattle.std.specs.Prelude.{◌≡◌, ◌↔◌, List, []}
-use Rattle.schema.specs.Meaning.{Meaning}
-use Rattle.schema.specs.Law.{Lawful, Closed}
+use Rattle.schema.specs.Meaning.{Meaning, Closed}
+use Rattle.schema.specs.Law.{Lawful}
 use Rattle.building_rules.specs.Definitions.{Accepted, errors_in}
 use Rattle.building_rules.specs.Rules.{Valid}
 
@@ -11,4 +11,4 @@ ExactlyWhenValid m = Closed m → (ds : List Accepted) → (errors_in m ds ≡ [
 
 -- for every schema that keeps the law
 abbrev pub NoErrorsExactlyWhenValid : Type 0
-NoErrorsExactlyWhenValid = (m : Meaning) → Lawful m → ExactlyWhenValid m
+NoErrorsExactlyWhenValid = (m : Meaning) → Lawful m.known m.sort m.field → ExactlyWhenValid m

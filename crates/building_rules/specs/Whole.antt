@@ -3,8 +3,8 @@ use Rattle.std.specs.Prelude.{◌≡◌, List, map, filter}
 use Rattle.layout.specs.Forest.{Forest, none, row}
 use Rattle.document.specs.Rows.{Selection}
 use Rattle.document.specs.Document.{Definition}
-use Rattle.schema.specs.Meaning.{Meaning}
-use Rattle.schema.specs.Law.{Lawful, Closed}
+use Rattle.schema.specs.Meaning.{Meaning, Closed}
+use Rattle.schema.specs.Law.{Lawful}
 use Rattle.selection_rules.specs.Stored.{Stored}
 use Rattle.building_rules.specs.Definitions.{Accepted, Kept, kept_in}
 use Rattle.building_rules.specs.Rules.{is_executable, Valid}
@@ -30,4 +30,4 @@ ValidKeptWhole m = Closed m → (ds : List Accepted) → Valid m ds → KeptWhol
 
 -- for every schema that keeps the law
 abbrev pub ValidIsKeptWhole : Type 0
-ValidIsKeptWhole = (m : Meaning) → Lawful m → ValidKeptWhole m
+ValidIsKeptWhole = (m : Meaning) → Lawful m.known m.sort m.field → ValidKeptWhole m

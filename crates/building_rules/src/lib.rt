@@ -2,6 +2,7 @@
 // Each function does nothing; its promise is a theorem on the rules.
 #![tactic(auto)]
 
+ghost use Rattle.schema.specs.Meaning.{meaning};
 ghost use Rattle.building_rules.specs.Statement.{ExactlyWhenValid};
 ghost use Rattle.building_rules.specs.Whole.{ValidKeptWhole};
 ghost use Rattle.building_rules.specs.Keeping.{KeptExactly, KeptInOrder};
@@ -15,7 +16,7 @@ use schema::Schema;
 /// Where the schema knows each type that it answers with, definitions list no error exactly when they keep the eight rules
 /// of the specification.
 pub fn no_errors_exactly_when_valid<S: Schema>(schema: &S)
-    ensures { ExactlyWhenValid (S.Schema.meaning schema.now) }
+    ensures { ExactlyWhenValid (meaning (S.Schema.root schema.now) (S.Schema.known schema.now) (S.Schema.sort schema.now) (S.Schema.field schema.now)) }
 {
     schema.keeps_the_law();
 }
@@ -28,7 +29,7 @@ pub fn knowing_the_types_is_needed()
 
 /// Of valid definitions every operation and every fragment is kept, in their order, with all selections.
 pub fn valid_documents_are_kept_whole<S: Schema>(schema: &S)
-    ensures { ValidKeptWhole (S.Schema.meaning schema.now) }
+    ensures { ValidKeptWhole (meaning (S.Schema.root schema.now) (S.Schema.known schema.now) (S.Schema.sort schema.now) (S.Schema.field schema.now)) }
 {
     schema.keeps_the_law();
 }

@@ -7,8 +7,8 @@ use Rattle.selection_rules.specs.declared.settling.SelectionFault.{SelectionFaul
 use Rattle.selection_rules.specs.declared.settling.SelectionFault.TheVariants.{UnknownCondition, OnScalar, OnEnum, UnknownField}
 use Rattle.selection_rules.specs.declared.settling.Settled.{Settled}
 use Rattle.selection_rules.specs.declared.settling.Settled.TheVariants.{Kept, Dropped, Faulty}
-use Rattle.selection_rules.specs.Stored.{Form, field, spread, inline, form_of, Stored, stored}
-use Rattle.selection_rules.specs.Settle.{meaning, settled}
+use Rattle.selection_rules.specs.Stored.{Form, field, spread, inline, form_of, Stored, stored_in}
+use Rattle.selection_rules.specs.Settle.{Meaning as Answers, meaning, looked_up, conditioned}
 use Rattle.selection_rules.specs.Errors.{Path, Error, undefined_type_in_inline_fragment, subselection_on_scalar_type, subselection_on_enum_type, undefined_field}
 
 -- the key of a field in a response: its alias, else its name
@@ -32,9 +32,19 @@ abbrev pub some_row : {A : Type 0} → Forest A → Bool
 some_row none = false
 some_row (row a below after) = true
 
--- what becomes of a selection in the type around it, by the meaning of a schema
+-- what a schema answers about types and fields
+abbrev pub answers : Meaning → Answers
+answers m = meaning m.known m.sort m.field
+
+-- What becomes of a selection in the type around it, form by form: `Kept` tells the place of its definition, and the type
+-- around what stands beneath it. Nothing stands beneath a spread of a document, so that type is the one around the spread.
+abbrev pub settled_as : Form → Meaning → ℕ → Selection → Bool → Settled
+settled_as field m around s beneath = looked_up (answers m) beneath (m.field around s.name)
+settled_as spread m around s beneath = Kept 0 around
+settled_as inline m around s beneath = conditioned (answers m) around s.condition
+
 abbrev pub settled_in : Meaning → ℕ → Selection → Bool → Settled
-settled_in m around s beneath = settled (meaning m.known m.sort m.field) around s beneath
+settled_in m around s beneath = settled_as (form_of s) m around s beneath
 
 -- the error of a selection with a fault, in the type around it
 abbrev pub error_of : SelectionFault → Path → ℕ → Selection → Error
@@ -58,7 +68,7 @@ errors m p around (row s below after) =
 
 -- a selection that is kept stands before the ones after it; one that is left out takes what is beneath it along
 abbrev pub keep : Settled → Selection → (ℕ → Forest Stored) → Forest Stored → Forest Stored
-keep (Kept place inner) s below after = row (stored s place inner) (below inner) after
+keep (Kept place inner) s below after = row (stored_in s place inner) (below inner) after
 keep Dropped s below after = after
 keep (Faulty fault) s below after = after
 

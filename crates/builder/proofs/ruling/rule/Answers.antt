@@ -11,7 +11,7 @@ returns-in-1 g c =
     let m = g.S.Schema.meaning c.args.schema.now in
     let p = c.args.progress.now in
     let h = head_of c.args.row.now in
-    subst (Ruled m (state_before p c.args.operations.now c.args.fragments.now) h c.args.strict) (sym c.rule-operation.ensures)
+    subst (Ruled m (state_before p c.args.operations.now c.args.fragments.now) h c.args.strict) (sym c.rule_operation.ensures)
     (operation_ruled m p.multiple_anonymous h c.args.operations.now (taken_by c.args.fragments.now p.fragments) c.args.strict (location_of p.anonymous) p.operations c.in-1.is)
 
 pub returns-in-2 : goal.returns-in-2
@@ -20,4 +20,4 @@ returns-in-2 g c =
     let p = c.args.progress.now in
     let h = head_of c.args.row.now in
     let s = state_before p c.args.operations.now c.args.fragments.now in
-    subst (Ruled m s h c.args.strict) (sym c.rule-fragment.ensures) (fragment_ruled m p.multiple_anonymous h s c.args.strict refl c.in-2.is)
+    subst (Ruled m s h c.args.strict) (sym c.rule_fragment.ensures) (fragment_ruled m p.multiple_anonymous h s c.args.strict refl c.in-2.is)

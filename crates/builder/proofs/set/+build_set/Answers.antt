@@ -5,7 +5,7 @@ use Rattle.layout.specs.Forest.{Forest, none}
 use Rattle.document.specs.Rows.{Selection, selection_of}
 use Rattle.schema.specs.Meaning.{Meaning}
 use Rattle.selection_rules.specs.declared.settling.Settled.{Settled}
-use Rattle.selection_rules.specs.Settle.{settled}
+use Rattle.selection_rules.specs.Sets.{settled_in}
 use Rattle.selection_rules.specs.declared.stored.StoredRow.{StoredRow}
 use Rattle.selection_rules.specs.Stored.{stored_in, stored_row}
 use Rattle.selection_rules.specs.Errors.{Path}
@@ -19,26 +19,26 @@ use Rattle.builder.proofs.set.+build_set.Goals as goal
 use Rattle.builder.proofs.set.+build_set.Goals.{in-Kept, in-Dropped, in-Faulty}
 
 -- what was settled, said of the forest beneath
-settled_so : (m : Meaning) (around : ℕ) (s : Selection) (v : Settled) (empty test row : Bool) → empty ≡ test → not test ≡ row → v ≡ settled m around s (not empty) → settled m around s row ≡ v
-settled_so m around s v empty test row e f is = ap (settled m around s) (sym (ap not e ∙ f)) ∙ sym is
+settled_so : (m : Meaning) (around : ℕ) (s : Selection) (v : Settled) (empty test row : Bool) → empty ≡ test → not test ≡ row → v ≡ settled_in m around s (not empty) → settled_in m around s row ≡ v
+settled_so m around s v empty test row e f is = ap (settled_in m around s) (sym (ap not e ∙ f)) ∙ sym is
 
 pub loop-step-init : goal.loop-step-init
 loop-step-init g t c = begin _ _ _ _ _ _ _ c.requires.room.0 c.requires.room.1
 
-pub build-set-done-requires : goal.build-set-done-requires
-build-set-done-requires g t c κs within =
+pub build_set-done-requires : goal.build_set-done-requires
+build_set-done-requires g t c κs within =
     let w = c.loop-step.invariant in
     let o = output c.loop-step.rows c.loop-step.errors c.loop-step.path_keys c.loop-step.done in
     let tr = turn _ _ _ _ _ _ _ c.loop-step.rest o w c.in-Some.step c.in-Some.ensures.step in
     let room = beneath _ _ _ _ _ _ _ c.loop-step.rest o w c.in-Some.step tr c.open.result c.entering.result.depth c.entering.ensures.depth in
     (omega (arith, tr.starts, tr.meets, tr.high, w.same-end, w.past, c.decreases), (within, (tr.below, room)))
 
-pub overflow-cast-rows : goal.overflow-cast-rows
-overflow-cast-rows g t c =
+pub overflow_cast-rows : goal.overflow_cast-rows
+overflow_cast-rows g t c =
     let w = c.loop-step.invariant in
     let o = output c.loop-step.rows c.loop-step.errors c.loop-step.path_keys c.loop-step.done in
     let tr = turn _ _ _ _ _ _ _ c.loop-step.rest o w c.in-Some.step c.in-Some.ensures.step in
-    let few = few_beneath _ _ _ _ _ _ _ c.loop-step.rest o w c.in-Some.step tr c.in-Kept.inner c.open.result (path_of c.entering.result) _ (c.build-set-done.ensures tr.below tr.beneath) in
+    let few = few_beneath _ _ _ _ _ _ _ c.loop-step.rest o w c.in-Some.step tr c.in-Kept.inner c.open.result (path_of c.entering.result) _ (c.build_set-done.ensures tr.below tr.beneath) in
     search rules
 
 pub loop-step-preserved : goal.loop-step-preserved
@@ -54,30 +54,30 @@ loop-step-preserved g t c =
     let even : length (path_of c.args.path).keys ≡ c.args.path.depth = length-take-le c.args.path.depth c.args.path.keys (omega (arith, tr.shallow)) in
     elim c.match-settle.branch [
       | in-Kept k ↦
-          let out = settled_so m c.args.around s _ c.is-empty.result _ (some_row tr.below) c.is-empty.ensures empty k.in-Kept.ensures in
-          let b = output k.build-set-done.new.rows k.build-set-done.new.errors k.build-set-done.new.path_keys k.build-set-done.result in
+          let out = settled_so m c.args.around s _ c.is_empty.result _ (some_row tr.below) c.is_empty.ensures empty k.in-Kept.ensures in
+          let b = output k.build_set-done.new.rows k.build_set-done.new.errors k.build_set-done.new.path_keys k.build_set-done.result in
           let r : StoredRow = stored_row (stored_in s k.in-Kept.place k.in-Kept.inner) 0 in
           let p : Path = path_to (path_of c.args.path) s in
           let is : b ≡ with_set (opened_with o r) (build m k.in-Kept.inner tr.below) (errors-of m p k.in-Kept.inner tr.below) =
-          k.build-set-done.ensures tr.below tr.beneath
+          k.build_set-done.ensures tr.below tr.beneath
           ∙ ap (λ (x : StoredRow). with_set (opened_with o x) (build m k.in-Kept.inner tr.below) (errors-of m (path_of k.entering.result) k.in-Kept.inner tr.below)) k.open.ensures
           ∙ ap (λ (x : Path). with_set (opened_with o r) (build m k.in-Kept.inner tr.below) (errors-of m x k.in-Kept.inner tr.below)) k.entering.ensures.path
           in
           let still = ap (λ (x : Output). get_or x.rows o.filled.rows no_stored_row) is ∙ still_open o r no_stored_row (build m k.in-Kept.inner tr.below) (errors-of m p k.in-Kept.inner tr.below) (omega (arith, tr.many, w.room.rows_fit)) in
-          let closed = ap (λ (x : StoredRow). set k.build-set-done.new.rows o.filled.rows (ended x k.build-set-done.result.rows)) still in
-          subst (Left m _ _ _ _ _ _ step.after) (sym (same_output (k.rows-is ∙ closed) k.errors-is k.path-keys-is (ap (λ x. x.rows) k.done-is) (ap (λ x. x.errors) k.done-is) (ap (λ x. x.path_keys) k.done-is)))
+          let closed = ap (λ (x : StoredRow). set k.build_set-done.new.rows o.filled.rows (ended x k.build_set-done.result.rows)) still in
+          subst (Left m _ _ _ _ _ _ step.after) (sym (same_output (k.rows-is ∙ closed) k.errors-is k.path_keys-is (ap (λ x. x.rows) k.done-is) (ap (λ x. x.errors) k.done-is) (ap (λ x. x.path_keys) k.done-is)))
           (kept m _ _ _ _ _ _ even c.loop-step.rest o w step tr k.in-Kept.place k.in-Kept.inner out b is)
       | in-Dropped k ↦
-          let out = settled_so m c.args.around s _ c.is-empty.result _ (some_row tr.below) c.is-empty.ensures empty k.in-Dropped.ensures in
-          subst (Left m _ _ _ _ _ _ step.after) (sym (same_output k.rows-is k.errors-is k.path-keys-is (ap (λ x. x.rows) k.done-is) (ap (λ x. x.errors) k.done-is) (ap (λ x. x.path_keys) k.done-is)))
+          let out = settled_so m c.args.around s _ c.is_empty.result _ (some_row tr.below) c.is_empty.ensures empty k.in-Dropped.ensures in
+          subst (Left m _ _ _ _ _ _ step.after) (sym (same_output k.rows-is k.errors-is k.path_keys-is (ap (λ x. x.rows) k.done-is) (ap (λ x. x.errors) k.done-is) (ap (λ x. x.path_keys) k.done-is)))
           (dropped m _ _ _ _ _ _ c.loop-step.rest o w step tr out)
       | in-Faulty k ↦
           let fault = k.in-Faulty.fault in
-          let out = settled_so m c.args.around s _ c.is-empty.result _ (some_row tr.below) c.is-empty.ensures empty k.in-Faulty.ensures in
-          let is = k.list-fault-done.ensures c.loop-step.rows ∙ ap (λ (x : Path). with_set o none (error_of fault x c.args.around s ∷ [])) k.entering-in-Faulty.ensures.path in
-          subst (Left m _ _ _ _ _ _ step.after) (sym (same_output k.rows-is k.errors-is k.path-keys-is (ap (λ x. x.rows) k.done-is) (ap (λ x. x.errors) k.done-is) (ap (λ x. x.path_keys) k.done-is)))
+          let out = settled_so m c.args.around s _ c.is_empty.result _ (some_row tr.below) c.is_empty.ensures empty k.in-Faulty.ensures in
+          let is = k.list_fault-done.ensures c.loop-step.rows ∙ ap (λ (x : Path). with_set o none (error_of fault x c.args.around s ∷ [])) k.entering-in-Faulty.ensures.path in
+          subst (Left m _ _ _ _ _ _ step.after) (sym (same_output k.rows-is k.errors-is k.path_keys-is (ap (λ x. x.rows) k.done-is) (ap (λ x. x.errors) k.done-is) (ap (λ x. x.path_keys) k.done-is)))
           (faulty m _ _ _ _ _ _ even c.loop-step.rest o w step tr fault out _ is)
     ]
 
 pub returns : goal.returns
-returns g t c = finish _ _ _ _ _ _ _ _ _ c.loop-step.invariant c.in-default.ensures.step
+returns g t c = finish _ _ _ _ _ _ _ _ _ c.loop-step.invariant c.in_default.ensures.step

@@ -4,8 +4,8 @@ use Rattle.builder.specs.Filling.{path_of, output}
 use Rattle.builder.proofs.Left.{Left}
 use Rattle.builder.proofs.set.+build_set.Given as goal
 
-abbrev pub decreases-build-set : goal.decreases-build-set
-decreases-build-set g l = l.set.end - l.set.next
+abbrev pub decreases-build_set : goal.decreases-build_set
+decreases-build_set g l = l.set.end - l.set.next
 
 abbrev pub invariant-loop-step : goal.invariant-loop-step
 invariant-loop-step g l =

@@ -19,6 +19,6 @@ returns c rows =
     ap (λ x. x.end_key) written.path ∙ ap (λ (l : List ℕ). q + length l) (sym keys)
     in
     same_output refl
-    (ap (set c.args.errors.now c.args.filled.errors) (c.selection-error.ensures q p written.path))
+    (ap (set c.args.errors.now c.args.filled.errors) (c.selection_error.ensures q p written.path))
     (written.keys ∙ ap (put c.args.path_keys.now q) (sym keys)) refl refl end
     ∙ one_error (output rows c.args.errors.now c.args.path_keys.now c.args.filled) e c.requires.errors_fit

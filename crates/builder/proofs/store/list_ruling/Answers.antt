@@ -9,14 +9,14 @@ use Rattle.builder.proofs.store.list_ruling.Goals as goal
 pub returns : goal.returns
 returns c =
     let r = c.args.ruling.now in
-    let one = c.list-one-next.ensures in
-    let two = c.list-one.ensures in
+    let one = c.list_one-next.ensures in
+    let two = c.list_one.ensures in
     let parts = told_parts r.first r.second in
     let few = maybe_few r.first in
     let front = maybe r.first [] in
     let back = maybe r.second [] in
     record {
-      listed = two.listed ∙ ap (λ l. put l c.list-one-next.result back) one.listed
-          ∙ put-put c.args.errors.now c.args.at front back c.list-one-next.result one.counted (omega (arith, one.counted, c.requires)) ∙ ap (put c.args.errors.now c.args.at) (sym parts);
+      listed = two.listed ∙ ap (λ l. put l c.list_one-next.result back) one.listed
+          ∙ put-put c.args.errors.now c.args.at front back c.list_one-next.result one.counted (omega (arith, one.counted, c.requires)) ∙ ap (put c.args.errors.now c.args.at) (sym parts);
       counted = omega (arith, two.counted, one.counted, ap length parts, length-append front back);
     }

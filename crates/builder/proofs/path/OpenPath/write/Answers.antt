@@ -14,10 +14,10 @@ returns c =
     let at = c.args.at in
     let table = c.args.path_keys.now in
     let count : length (take depth keys) ≡ depth = length-take-le depth keys (omega arith) in
-    let written : c.copy-from-slice.new.self ≡ take depth keys = c.copy-from-slice.ensures.after ∙ search rules in
-    let gap : (at + depth) - at ≡ length c.copy-from-slice.new.self = omega (arith, ap length written) in
+    let written : c.copy_from_slice.new.self ≡ take depth keys = c.copy_from_slice.ensures.after ∙ search rules in
+    let gap : (at + depth) - at ≡ length c.copy_from_slice.new.self = omega (arith, ap length written) in
     record {
-      keys = put_mid-put at ((at + depth) - at) table c.copy-from-slice.new.self gap ∙ ap (put table at) written;
+      keys = put_mid-put at ((at + depth) - at) table c.copy_from_slice.new.self gap ∙ ap (put table at) written;
       path = ap (λ (n : ℕ). record { root = c.args.self.root; first_key = at; end_key = at + n }) (sym count);
       count = count;
     }
