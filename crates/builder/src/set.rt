@@ -6,7 +6,8 @@ ghost use Rattle.document.specs.Rows.{Selection, selection_of};
 ghost use Rattle.document.specs.Sets.{Holds};
 ghost use Rattle.selection_rules.specs.declared.stored.StoredRow.{StoredRow};
 ghost use Rattle.selection_rules.specs.Errors.{Path, path_at, error_row};
-ghost use Rattle.selection_rules.specs.Sets.{error_of, build, errors as errors-of};
+ghost use Rattle.selection_rules.specs.Stored.{stored_in, stored_row};
+ghost use Rattle.selection_rules.specs.Sets.{settled_in, error_of, build, errors as errors-of};
 ghost use Rattle.builder.specs.Filling.{path_of, output, with_set, Room};
 
 use crate::filled::Filled;
@@ -76,6 +77,26 @@ fn list_fault(
     }
 }
 
+// What becomes of a selection in the type around it, told with the type around what stands beneath it: nothing stands
+// beneath a spread, so that type is the one around the spread.
+fn settle_in<S: Schema>(schema: &S, around: u32, row: &SelectionRow, beneath: bool) -> Settled
+    ensures { result ≡ settled_in (meaning (S.Schema.root schema.now) (S.Schema.known schema.now) (S.Schema.sort schema.now) (S.Schema.field schema.now)) around (selection_of row.now) beneath }
+{
+    if row.kind == 2 {
+        return Settled::Kept(0, around);
+    }
+    settle(schema, around, row, beneath)
+}
+
+// The row of a selection whose set is not closed yet, where the type around what stands beneath it is `inner`. A spread has
+// no set.
+fn open_in(row: &SelectionRow, place: u32, inner: u32) -> StoredRow
+    ensures { result ≡ stored_row (stored_in (selection_of row.now) place inner) 0 }
+{
+    let set_type = if row.kind == 2 { 0 } else { inner };
+    StoredRow::open(row, place, set_type)
+}
+
 // Builds a set in the type around it. The tables have room for all that it can store and list.
 pub fn build_set<S: Schema>(
     schema: &S,
@@ -95,10 +116,10 @@ pub fn build_set<S: Schema>(
     let mut rest = set;
     while let Some(step) = document.next_selection(rest) {
         let row = step.row;
-        match settle(schema, around, &row, !step.beneath.is_empty()) {
+        match settle_in(schema, around, &row, !step.beneath.is_empty()) {
             Settled::Kept(place, inner) => {
                 let at = done.rows;
-                rows[at] = StoredRow::open(&row, place, inner);
+                rows[at] = open_in(&row, place, inner);
                 done.rows += 1;
                 done = build_set(
                     schema,

@@ -3,7 +3,7 @@ use Rattle.std.proofs.Common.{◌≡◌, ℕ, ◌<◌, ◌≤◌, Bool, not, Lis
 use Rattle.std.proofs.lemmas.List.{length-take-le}
 use Rattle.layout.specs.Forest.{Forest, none}
 use Rattle.document.specs.Rows.{Selection, selection_of}
-use Rattle.schema.specs.Meaning.{Meaning}
+use Rattle.schema.specs.Meaning.{Meaning, meaning}
 use Rattle.selection_rules.specs.declared.settling.Settled.{Settled}
 use Rattle.selection_rules.specs.Sets.{settled_in}
 use Rattle.selection_rules.specs.declared.stored.StoredRow.{StoredRow}
@@ -30,15 +30,15 @@ build_set-done-requires g t c κs within =
     let w = c.loop-step.invariant in
     let o = output c.loop-step.rows c.loop-step.errors c.loop-step.path_keys c.loop-step.done in
     let tr = turn _ _ _ _ _ _ _ c.loop-step.rest o w c.in-Some.step c.in-Some.ensures.step in
-    let room = beneath _ _ _ _ _ _ _ c.loop-step.rest o w c.in-Some.step tr c.open.result c.entering.result.depth c.entering.ensures.depth in
-    (omega (arith, tr.starts, tr.meets, tr.high, w.same-end, w.past, c.decreases), (within, (tr.below, room)))
+    let room = beneath _ _ _ _ _ _ _ c.loop-step.rest o w c.in-Some.step tr c.open_in.result c.entering.result.depth c.entering.ensures.depth in
+    (omega (arith, tr.starts, tr.meets, tr.high, w.same_end, w.past, c.decreases), (within, (tr.below, room)))
 
 pub overflow_cast-rows : goal.overflow_cast-rows
 overflow_cast-rows g t c =
     let w = c.loop-step.invariant in
     let o = output c.loop-step.rows c.loop-step.errors c.loop-step.path_keys c.loop-step.done in
     let tr = turn _ _ _ _ _ _ _ c.loop-step.rest o w c.in-Some.step c.in-Some.ensures.step in
-    let few = few_beneath _ _ _ _ _ _ _ c.loop-step.rest o w c.in-Some.step tr c.in-Kept.inner c.open.result (path_of c.entering.result) _ (c.build_set-done.ensures tr.below tr.beneath) in
+    let few = few_beneath _ _ _ _ _ _ _ c.loop-step.rest o w c.in-Some.step tr c.in-Kept.inner c.open_in.result (path_of c.entering.result) _ (c.build_set-done.ensures tr.below tr.beneath) in
     search rules
 
 pub loop-step-preserved : goal.loop-step-preserved
@@ -48,11 +48,11 @@ loop-step-preserved g t c =
     let o = output c.loop-step.rows c.loop-step.errors c.loop-step.path_keys c.loop-step.done in
     let step = c.in-Some.step in
     let s : Selection = selection_of step.row in
-    let m : Meaning = g.S.Schema.meaning c.args.schema.now in
+    let m : Meaning = meaning (g.S.Schema.root c.args.schema.now) (g.S.Schema.known c.args.schema.now) (g.S.Schema.sort c.args.schema.now) (g.S.Schema.field c.args.schema.now) in
     let tr = turn _ _ _ _ _ _ _ c.loop-step.rest o w step c.in-Some.ensures.step in
     let empty = some_beneath _ step.beneath tr.below tr.beneath in
     let even : length (path_of c.args.path).keys ≡ c.args.path.depth = length-take-le c.args.path.depth c.args.path.keys (omega (arith, tr.shallow)) in
-    elim c.match-settle.branch [
+    elim c.match-settle_in.branch [
       | in-Kept k ↦
           let out = settled_so m c.args.around s _ c.is_empty.result _ (some_row tr.below) c.is_empty.ensures empty k.in-Kept.ensures in
           let b = output k.build_set-done.new.rows k.build_set-done.new.errors k.build_set-done.new.path_keys k.build_set-done.result in
@@ -60,7 +60,7 @@ loop-step-preserved g t c =
           let p : Path = path_to (path_of c.args.path) s in
           let is : b ≡ with_set (opened_with o r) (build m k.in-Kept.inner tr.below) (errors-of m p k.in-Kept.inner tr.below) =
           k.build_set-done.ensures tr.below tr.beneath
-          ∙ ap (λ (x : StoredRow). with_set (opened_with o x) (build m k.in-Kept.inner tr.below) (errors-of m (path_of k.entering.result) k.in-Kept.inner tr.below)) k.open.ensures
+          ∙ ap (λ (x : StoredRow). with_set (opened_with o x) (build m k.in-Kept.inner tr.below) (errors-of m (path_of k.entering.result) k.in-Kept.inner tr.below)) k.open_in.ensures
           ∙ ap (λ (x : Path). with_set (opened_with o r) (build m k.in-Kept.inner tr.below) (errors-of m x k.in-Kept.inner tr.below)) k.entering.ensures.path
           in
           let still = ap (λ (x : Output). get_or x.rows o.filled.rows no_stored_row) is ∙ still_open o r no_stored_row (build m k.in-Kept.inner tr.below) (errors-of m p k.in-Kept.inner tr.below) (omega (arith, tr.many, w.room.rows_fit)) in
