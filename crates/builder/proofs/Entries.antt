@@ -1,5 +1,5 @@
 -- A name that is not taken is entered where there is room.
-use Rattle.std.proofs.Common.{◌≡◌, ℕ, zero, suc, ◌+◌, ◌<◌, ◌≤◌, Bool, true, false, cond, ◌&&◌, ltb, List, [], ◌∷◌, length, set, Some, None, Option, sym, refl, ap, ◌∙◌, subst, arith, length-set}
+use Rattle.std.proofs.Common.{◌≡◌, ℕ, ◌<◌, true, false, length, Some, None, ap, ◌∙◌, subst, arith, length-set}
 use Rattle.std.proofs.lemmas.Bool.{lt-ltb, and_from, both_ways, cond-true}
 use Rattle.ordered_index.specs.declared.probe.Probed.{Probed}
 use Rattle.ordered_index.specs.declared.probe.Probed.TheVariants.{Found, Vacant, Round}
@@ -11,7 +11,7 @@ use Rattle.ordered_index.specs.Sound.{Sound, Located}
 use Rattle.ordered_index.specs.Entering.{insert_room, entered as entering, present}
 use Rattle.building_rules.specs.Definitions.{taken_at}
 use Rattle.stored_tables.specs.declared.definition.StoredDefinition.{StoredDefinition}
-use Rattle.builder.specs.Holding.{Table, table, names_in, taken_by, entered}
+use Rattle.builder.specs.Holding.{Table, names_in, taken_by, entered}
 use Rattle.builder.specs.Storing.{Indexed}
 use Rattle.builder.proofs.Taken.{found}
 

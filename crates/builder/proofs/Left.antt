@@ -1,5 +1,5 @@
 -- What is left of a set, at the start of a turn, gives what was to be built.
-use Rattle.std.proofs.Common.{◌≡◌, ℕ, zero, suc, ◌+◌, ◌<◌, ◌≤◌, max, Bool, true, false, cond, leb, List, [], ◌∷◌, ◌++◌, length, get_or, set, Some, None, Option, sym, refl, ap, ◌∙◌, subst, arith, length-append, length-set}
+use Rattle.std.proofs.Common.{◌≡◌, ℕ, suc, ◌+◌, ◌<◌, ◌≤◌, max, Bool, true, false, cond, List, [], ◌∷◌, ◌++◌, length, Some, None, sym, refl, ap, ◌∙◌, subst, arith, length-append, length-set}
 use Rattle.layout.specs.Forest.{Forest, none, row, size, depth, flatten}
 use Rattle.layout.proofs.Tables.{length-flatten}
 use Rattle.document.specs.declared.rows.SelectionRow.{SelectionRow}
@@ -8,19 +8,16 @@ use Rattle.document.specs.declared.handed.sets.SelectionStep.{SelectionStep}
 use Rattle.document.specs.Rows.{Selection, selection_of, is_field}
 use Rattle.document.specs.Sets.{next_of, Holds}
 use Rattle.document.specs.Needs.{way, path_keys}
-use Rattle.document.proofs.Keys.{Stepped, stepped, ended, same_set}
+use Rattle.document.proofs.Keys.{stepped, ended, same_set}
 use Rattle.schema.specs.Meaning.{Meaning}
 use Rattle.selection_rules.specs.declared.stored.StoredRow.{StoredRow}
-use Rattle.selection_rules.specs.declared.error.BuildError.{BuildError}
 use Rattle.selection_rules.specs.declared.settling.SelectionFault.{SelectionFault}
-use Rattle.selection_rules.specs.declared.settling.Settled.{Settled}
 use Rattle.selection_rules.specs.declared.settling.Settled.TheVariants.{Kept, Dropped, Faulty}
 use Rattle.selection_rules.specs.Stored.{Stored, stored_in, stored_row}
 use Rattle.selection_rules.specs.Sets.{settled_in}
 use Rattle.selection_rules.specs.Errors.{Path, Error, keys_of, keys_in, error_rows}
 use Rattle.selection_rules.specs.Sets.{path_to, some_row, error_of, listed, errors, keep, build}
-use Rattle.builder.specs.declared.filled.Filled.{Filled}
-use Rattle.builder.specs.Filling.{put, Output, output, filled_to, with_set, Room}
+use Rattle.builder.specs.Filling.{Output, with_set, Room}
 use Rattle.builder.proofs.Puts.{length-put}
 use Rattle.builder.proofs.Outputs.{nothing_more, errors_then, opened_with, closed_with, row_then, fault_keys, length_rows}
 use Rattle.builder.proofs.Bounds.{set_few, keys_few, path_way}

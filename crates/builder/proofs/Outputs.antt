@@ -1,5 +1,5 @@
 -- Laws of the tables that are filled: nothing more, one error more, rows and errors behind others, a row over its set.
-use Rattle.std.proofs.Common.{◌≡◌, ℕ, zero, suc, ◌+◌, ◌<◌, ◌≤◌, List, [], ◌∷◌, ◌++◌, length, get_or, set, Some, None, Option, sym, refl, ap, ◌∙◌, subst, append_assoc, add-zero, add_assoc, add-one, arith, length-append, length-set}
+use Rattle.std.proofs.Common.{◌≡◌, ℕ, suc, ◌+◌, ◌<◌, ◌≤◌, List, [], ◌∷◌, ◌++◌, length, get_or, set, Some, None, Option, sym, refl, ap, ◌∙◌, append_assoc, add-zero, add-one, arith, length-append}
 use Rattle.std.proofs.lemmas.List.{append-nil}
 use Rattle.layout.specs.Forest.{Forest, none, row, size, flatten}
 use Rattle.layout.proofs.Tables.{length-flatten}
@@ -11,7 +11,6 @@ use Rattle.selection_rules.specs.declared.settling.SelectionFault.TheVariants.{U
 use Rattle.selection_rules.specs.Stored.{Stored, stored_row}
 use Rattle.selection_rules.specs.Errors.{Path, Error, keys_of, keys_in, error_row, error_rows}
 use Rattle.selection_rules.specs.Sets.{error_of}
-use Rattle.builder.specs.declared.filled.Filled.{Filled}
 use Rattle.builder.specs.Filling.{put, Output, output, filled_to, with_set}
 use Rattle.builder.specs.Ruling.{maybe}
 use Rattle.builder.proofs.Puts.{put_nil, set-put, put-put, put_row, get_row}

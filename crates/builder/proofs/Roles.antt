@@ -1,8 +1,8 @@
 -- The role of a definition, by its kind and its name.
-use Rattle.std.proofs.Common.{◌≡◌, ℕ, cond, eqb, ◌∙◌, arith}
+use Rattle.std.proofs.Common.{◌≡◌, cond, eqb, ◌∙◌, arith}
 use Rattle.std.proofs.lemmas.Bool.{eq-eqb, ne_eqb, cond-true, cond-false}
 use Rattle.document.specs.Rows.{Head}
-use Rattle.building_rules.specs.Definitions.{Role, anonymous_operation, named_operation, fragment, type_system, role_of}
+use Rattle.building_rules.specs.Definitions.{anonymous_operation, named_operation, fragment, type_system, role_of}
 
 module _ (h : Head) where
   pub operation_role : h.kind ≡ 1 → role_of h ≡ cond (eqb h.name 0) anonymous_operation named_operation

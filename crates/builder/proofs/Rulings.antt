@@ -2,17 +2,15 @@
 use Rattle.std.proofs.Common.{◌≡◌, ℕ, zero, suc, Bool, true, false, cond, eqb, List, [], ◌∷◌, ◌++◌, Some, None, Option, sym, refl, ap, ◌∙◌}
 use Rattle.document.specs.Rows.{Head}
 use Rattle.schema.specs.Meaning.{Meaning}
-use Rattle.selection_rules.specs.declared.error.BuildError.{BuildError}
 use Rattle.selection_rules.specs.declared.error.BuildError.TheVariants.{AmbiguousAnonymousOperation}
-use Rattle.selection_rules.specs.Errors.{Error, error_rows}
-use Rattle.building_rules.specs.Definitions.{Role, anonymous_operation, named_operation, fragment, type_system, role_of, operation_of, Taken, taken_at, State, beside}
+use Rattle.selection_rules.specs.Errors.{error_rows}
+use Rattle.building_rules.specs.Definitions.{Role, anonymous_operation, named_operation, fragment, role_of, operation_of, Taken, taken_at, State, beside}
 use Rattle.stored_tables.specs.declared.definition.StoredDefinition.{StoredDefinition}
 use Rattle.builder.specs.declared.ruling.Ruling.{Ruling}
-use Rattle.builder.specs.declared.ruling.Arriving.{Arriving}
 use Rattle.builder.specs.declared.ruling.Arriving.TheVariants.{Anonymous, Named}
 use Rattle.builder.specs.Holding.{taken_by}
 use Rattle.builder.proofs.Roles.{operation_role, fragment_role}
-use Rattle.builder.specs.Ruling.{operations_stored, arriving_as, root_errors, anonymous_errors, name_errors, fragment_errors, own_errors_as, lone_root, named_root, fragment_type, set_type_as, now_multiple, root_ruling, named_ruling, operation_ruling, fragment_ruling, maybe, told, Ruled}
+use Rattle.builder.specs.Ruling.{operations_stored, arriving_as, root_errors, anonymous_errors, name_errors, fragment_errors, own_errors_as, named_root, fragment_type, set_type_as, now_multiple, root_ruling, operation_ruling, fragment_ruling, maybe, told, Ruled}
 
 -- a ruling says what the rules say of a definition of this role
 record Says (m : Meaning) (s : State) (h : Head) (strict : Bool) (role : Role) (r : Ruling) : Type 0 where

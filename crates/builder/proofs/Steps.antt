@@ -1,23 +1,12 @@
 -- A step of building is what is ruled of the definition and what its selections come to; and it fills the tables so.
-use Rattle.std.proofs.Common.{◌≡◌, ℕ, zero, suc, ◌+◌, ◌<◌, ◌≤◌, Bool, true, false, cond, List, [], ◌∷◌, ◌++◌, length, Some, None, Option, sym, refl, ap, ◌∙◌, subst, append_assoc, arith, length-append}
+use Rattle.std.proofs.Common.{◌≡◌, ℕ, ◌≤◌, Bool, true, false, cond, List, [], ◌∷◌, ◌++◌, length, Some, None, Option, sym, refl, ap, ◌∙◌, subst, append_assoc, arith}
 use Rattle.std.proofs.lemmas.List.{append-nil}
-use Rattle.layout.specs.Forest.{Forest, none, size, flatten}
-use Rattle.document.specs.Rows.{Head, Selection}
+use Rattle.document.specs.Rows.{Head}
 use Rattle.schema.specs.Meaning.{Meaning}
-use Rattle.selection_rules.specs.declared.stored.StoredRow.{StoredRow}
-use Rattle.selection_rules.specs.declared.error.BuildError.{BuildError}
-use Rattle.selection_rules.specs.Stored.{Stored, stored_row}
-use Rattle.selection_rules.specs.Errors.{Path, Error, keys_of, keys_in, error_row, error_rows, type_system_definition, ambiguous_anonymous_operation, operation_name_collision, fragment_name_collision, undefined_root_operation, undefined_type_in_named_fragment}
+use Rattle.selection_rules.specs.Errors.{Error, keys_in, error_rows, type_system_definition, ambiguous_anonymous_operation}
 use Rattle.selection_rules.specs.Sets.{build, errors}
-use Rattle.building_rules.specs.Definitions.{Accepted, Kept, Role, anonymous_operation, named_operation, fragment, type_system, role_of, operation_of, start_path, Taken, taken_at, State, Outcome, with_anonymous, with_operation, with_fragment, rooted, add_anonymous, add_named, add_fragment, beside, before, step_of, step}
-use Rattle.building_rules.specs.Rules.{anonymous_role, named_role, fragment_role}
-use Rattle.stored_tables.specs.declared.definition.StoredDefinition.{StoredDefinition}
-use Rattle.stored_tables.specs.Layout.{laid_out, latest}
-use Rattle.builder.specs.Filling.{put, Output, output, filled_to, with_set}
-use Rattle.builder.specs.Holding.{Table, Held, entered, all_entered, filled_with, state_of}
-use Rattle.builder.specs.Ruling.{root_errors, anonymous_errors, name_errors, fragment_errors, own_errors_as, own_errors, lone_root, named_root, fragment_type, set_type_as, set_type_for, now_multiple}
-use Rattle.builder.specs.Storing.{store_as}
-use Rattle.builder.proofs.Outputs.{same_output}
+use Rattle.building_rules.specs.Definitions.{Accepted, Kept, Role, anonymous_operation, named_operation, fragment, type_system, role_of, operation_of, start_path, Taken, taken_at, State, Outcome, with_anonymous, with_operation, rooted, add_anonymous, add_named, add_fragment, beside, step_of, step}
+use Rattle.builder.specs.Ruling.{root_errors, anonymous_errors, name_errors, fragment_errors, own_errors_as, own_errors, lone_root, named_root, fragment_type, set_type_as, now_multiple}
 
 -- what the selections of a definition list, where it is stored in a type
 abbrev pub set_errors : Meaning → Accepted → Option ℕ → List Error

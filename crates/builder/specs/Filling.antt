@@ -1,5 +1,5 @@
 -- Tables that are filled from the front: what they hold once selections are stored and errors are listed.
-use Rattle.std.specs.Prelude.{◌≡◌, ℕ, ◌+◌, ◌≤◌, List, [], ◌∷◌, ◌++◌, length, take, drop}
+use Rattle.std.specs.Prelude.{ℕ, ◌+◌, ◌≤◌, List, ◌++◌, length, take, drop}
 use Rattle.layout.specs.Forest.{Forest, size, depth, flatten}
 use Rattle.document.specs.declared.rows.SelectionRow.{SelectionRow}
 use Rattle.document.specs.declared.handed.sets.SelectionSet.{SelectionSet}

@@ -1,5 +1,5 @@
 -- What a builder and its tables hold, what the rules read of it, and what it comes to once definitions are taken in.
-use Rattle.std.specs.Prelude.{ℕ, zero, suc, ◌+◌, Bool, List, [], ◌∷◌, ◌++◌, length, Some, None, Option, slice_index_or, slice_set}
+use Rattle.std.specs.Prelude.{ℕ, zero, suc, ◌+◌, Bool, List, [], ◌∷◌, length, Some, None, Option, slice_index_or, slice_set}
 use Rattle.ordered_index.specs.declared.index.Entered.TheVariants.{Added}
 use Rattle.ordered_index.specs.Sound.{keys_of}
 use Rattle.ordered_index.specs.Keys.{same_name, name_hash}

@@ -5,7 +5,7 @@ use Rattle.schema.specs.Meaning.{Meaning}
 use Rattle.selection_rules.specs.declared.error.BuildError.{BuildError}
 use Rattle.selection_rules.specs.Errors.{Error, type_system_definition, ambiguous_anonymous_operation, operation_name_collision, fragment_name_collision, undefined_root_operation, undefined_type_in_named_fragment, error_rows}
 use Rattle.building_rules.specs.Definitions.{Role, anonymous_operation, named_operation, fragment, type_system, role_of, operation_of, Taken, taken_at, State, beside}
-use Rattle.selection_rules.specs.declared.error.BuildError.TheVariants.{TypeSystemDefinition, AmbiguousAnonymousOperation, OperationNameCollision, FragmentNameCollision, UndefinedRootOperation, UndefinedTypeInNamedFragmentTypeCondition}
+use Rattle.selection_rules.specs.declared.error.BuildError.TheVariants.{AmbiguousAnonymousOperation, OperationNameCollision, FragmentNameCollision, UndefinedRootOperation, UndefinedTypeInNamedFragmentTypeCondition}
 use Rattle.builder.specs.declared.ruling.Ruling.{Ruling}
 use Rattle.builder.specs.declared.ruling.StoredOperations.{StoredOperations}
 use Rattle.builder.specs.declared.ruling.StoredOperations.TheVariants.{Neither, AnonymousOnly, NamedOnly, Both}

@@ -1,5 +1,5 @@
 -- Room in the tables for what building can need.
-use Rattle.std.specs.Prelude.{ℕ, ◌+◌, ◌≤◌, length}
+use Rattle.std.specs.Prelude.{◌+◌, ◌≤◌, length}
 use Rattle.document.specs.declared.handed.needs.Needs.{Needs}
 use Rattle.builder.specs.Holding.{Held}
 

@@ -1,7 +1,6 @@
 -- Storing one definition: where it goes, and what that asks of the tables.
-use Rattle.std.specs.Prelude.{◌≡◌, ℕ, ◌<◌, ◌≤◌, List, length, Some, None}
+use Rattle.std.specs.Prelude.{◌≡◌, ℕ, ◌<◌, ◌≤◌, length, Some, None}
 use Rattle.ordered_index.specs.Keys.{same_name, name_hash}
-use Rattle.ordered_index.specs.Slots.{limit}
 use Rattle.ordered_index.specs.Sound.{Sound}
 use Rattle.building_rules.specs.Definitions.{Role, anonymous_operation, named_operation, fragment, type_system, taken_at}
 use Rattle.stored_tables.specs.declared.definition.StoredDefinition.{StoredDefinition}

@@ -5,7 +5,7 @@ use Rattle.std.specs.List.{AllByRecursion as All}
 use Rattle.schema.specs.Meaning.{Meaning}
 use Rattle.selection_rules.specs.Errors.{Error}
 use Rattle.selection_rules.specs.Sets.{errors}
-use Rattle.building_rules.specs.Definitions.{Accepted, Role, anonymous_operation, named_operation, fragment, type_system, role_of, operation_of, start_path, Taken, taken, taken_at, State, with_anonymous, with_operation, with_fragment, Outcome, rooted, add_anonymous, add_named, add_fragment, beside, before, step_of, step, errors_from}
+use Rattle.building_rules.specs.Definitions.{Accepted, Role, anonymous_operation, named_operation, fragment, type_system, role_of, operation_of, start_path, Taken, taken, taken_at, State, with_anonymous, with_operation, with_fragment, rooted, add_anonymous, add_named, add_fragment, beside, before, step_of, step, errors_from}
 use Rattle.building_rules.specs.Rules.{anonymous_role, named_role, fragment_role, is_named, is_fragment}
 use Rattle.building_rules.proofs.Rows.{no_cons, both_nil, nil_both}
 use Rattle.building_rules.proofs.Names.{New, LoneAt, Lone}

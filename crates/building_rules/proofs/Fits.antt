@@ -1,5 +1,5 @@
 -- How many places definitions can need: errors, path keys, stored rows and stored definitions.
-use Rattle.std.proofs.Common.{◌≡◌, ℕ, suc, ◌+◌, ◌*◌, ◌≤◌, Bool, true, false, cond, List, [], ◌∷◌, ◌++◌, length, Some, None, sum_by, count_by, Option, refl, ap, ◌∙◌, append_assoc, arith, length-append}
+use Rattle.std.proofs.Common.{◌≡◌, ℕ, suc, ◌+◌, ◌≤◌, Bool, true, false, cond, List, [], ◌∷◌, ◌++◌, length, Some, None, sum_by, count_by, Option, refl, ap, ◌∙◌, append_assoc, arith, length-append}
 use Rattle.std.proofs.lemmas.List.Sums.{sum_by-cons, sum_by-append}
 use Rattle.layout.specs.Forest.{Forest, none, row, size}
 use Rattle.document.specs.Rows.{Selection, Head, is_field, is_spread, is_fragment}
@@ -12,12 +12,12 @@ use Rattle.selection_rules.specs.declared.settling.SelectionFault.{SelectionFaul
 use Rattle.selection_rules.specs.declared.settling.SelectionFault.TheVariants.{UnknownCondition, OnScalar, OnEnum, UnknownField}
 use Rattle.selection_rules.specs.declared.settling.Settled.{Settled}
 use Rattle.selection_rules.specs.declared.settling.Settled.TheVariants as settles
-use Rattle.selection_rules.specs.Stored.{field, spread, inline, form_of, Stored}
+use Rattle.selection_rules.specs.Stored.{field, spread, inline, Stored}
 use Rattle.selection_rules.specs.Sets.{settled_in}
 use Rattle.selection_rules.specs.Errors.{Path, Error, keys_of, keys_in}
 use Rattle.selection_rules.specs.Sets.{path_in, path_to, some_row, error_of, listed, errors, keep, build}
-use Rattle.building_rules.specs.Definitions.{Accepted, accepted_from, Role, anonymous_operation, named_operation, fragment, type_system, role_of, operation_of, start_path, Kept, Taken, taken_at, State, with_anonymous, with_operation, with_fragment, with_multiple, Outcome, left_out, stored, rooted, add_anonymous, add_named, add_fragment, add_type_system, beside, before, step_of, step, errors_from, kept_from}
-use Rattle.building_rules.specs.Bounds.{rows_of, path_keys_of, needs_for, rows_kept, Fits, BuildsFit, NeedsOfDocuments}
+use Rattle.building_rules.specs.Definitions.{Accepted, accepted_from, Role, anonymous_operation, named_operation, fragment, type_system, role_of, operation_of, start_path, Kept, Taken, taken_at, State, with_anonymous, with_operation, with_fragment, with_multiple, Outcome, stored, rooted, add_anonymous, add_named, add_fragment, add_type_system, beside, before, step_of, step, errors_from, kept_from}
+use Rattle.building_rules.specs.Bounds.{rows_of, path_keys_of, rows_kept, BuildsFit, NeedsOfDocuments}
 
 -- Selections
 

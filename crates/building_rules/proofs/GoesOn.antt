@@ -1,9 +1,8 @@
 -- Definitions in two parts: the second goes on where the first left off.
-use Rattle.std.proofs.Common.{◌≡◌, List, [], ◌∷◌, ◌++◌, sym, refl, ap, ◌∙◌, append_assoc}
-use Rattle.schema.specs.Meaning.{Meaning}
+use Rattle.std.proofs.Common.{List, [], ◌∷◌, ◌++◌, sym, refl, ap, ◌∙◌, append_assoc}
 use Rattle.selection_rules.specs.Errors.{Error}
-use Rattle.building_rules.specs.Definitions.{Accepted, Kept, State, step, errors_from, kept_from}
-use Rattle.building_rules.specs.Runs.{Goes_on, RunsGoOn}
+use Rattle.building_rules.specs.Definitions.{Kept, step}
+use Rattle.building_rules.specs.Runs.{RunsGoOn}
 
 pub runs_go_on : RunsGoOn
 runs_go_on m s [] es = record { errors = refl; kept = refl; state = refl }

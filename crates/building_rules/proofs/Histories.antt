@@ -1,14 +1,13 @@
 -- Tables hold the document whose layout they are, and a history grows by the definitions of one call.
-use Rattle.std.proofs.Common.{◌≡◌, ℕ, ◌+◌, List, [], ◌∷◌, ◌++◌, length, drop, sym, refl, ap, ◌∙◌, append_assoc, append-nil, arith}
+use Rattle.std.proofs.Common.{◌≡◌, ℕ, ◌+◌, List, [], ◌∷◌, ◌++◌, drop, sym, refl, ap, ◌∙◌, append_assoc, append-nil}
 use Rattle.std.proofs.lemmas.List.{drop_at, drop-drop}
-use Rattle.layout.specs.Forest.{Forest, size, flatten}
-use Rattle.layout.specs.Shapes.{Stand, forest_in}
+use Rattle.layout.specs.Forest.{size, flatten}
+use Rattle.layout.specs.Shapes.{Stand}
 use Rattle.layout.proofs.Tables.{length-flatten, forest_read}
 use Rattle.document.specs.declared.rows.SelectionRow.{SelectionRow}
-use Rattle.document.specs.Rows.{Head, selections, selection_row}
-use Rattle.document.specs.Document.{Definition, definition_rows, selection_rows, IsDocument}
-use Rattle.building_rules.specs.Definitions.{Accepted}
-use Rattle.building_rules.specs.Calls.{Call, accepted_of, accepted, document_in, DocumentsAreRead, HistoriesGrow}
+use Rattle.document.specs.Rows.{selections, selection_row}
+use Rattle.document.specs.Document.{Definition, definition_rows, selection_rows}
+use Rattle.building_rules.specs.Calls.{accepted_of, accepted, document_in, DocumentsAreRead, HistoriesGrow}
 
 -- the definitions whose selections begin at s
 read_from : (rows : List SelectionRow) (s : ℕ) (docs : List Definition) → drop s rows ≡ selection_rows s docs → document_in (definition_rows s docs) rows ≡ docs

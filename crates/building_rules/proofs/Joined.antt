@@ -11,11 +11,11 @@ use Rattle.schema.specs.Law.{Lawful}
 use Rattle.selection_rules.specs.Stored.{field, inline, form_of}
 use Rattle.selection_rules.specs.Sets.{errors}
 use Rattle.building_rules.specs.Definitions.{Accepted, Role, anonymous_operation, named_operation, fragment, type_system, role_of, operation_of, start_path, fresh}
-use Rattle.building_rules.specs.Rules.{operation_role, fragment_role, is_operation, is_named, is_fragment, Around, of_root, of_fragment, Selected, Within, Leaf, Operation, Fragment, Defined, ExecutableDefinitions, FieldSelections, LeafFieldSelections, FragmentTypeExistence, RootOperationType, Valid}
+use Rattle.building_rules.specs.Rules.{operation_role, fragment_role, is_operation, is_named, is_fragment, Around, of_root, of_fragment, Selected, Within, Leaf, Operation, Fragment, Defined, ExecutableDefinitions, FieldSelections, LeafFieldSelections, FragmentTypeExistence, RootOperationType}
 use Rattle.building_rules.specs.Statement.{NoErrorsExactlyWhenValid}
 use Rattle.building_rules.proofs.Rows.{Good, stands_good, within_conditioned, no_faults}
 use Rattle.building_rules.proofs.Names.{new_alone, alone_new, lone_rule, rule_lone}
-use Rattle.building_rules.proofs.Definitions.{Rooted, Local, Runs, runs, no_errors}
+use Rattle.building_rules.proofs.Definitions.{Rooted, Local, runs, no_errors}
 
 -- what the rules say of one definition
 record Sound (m : Meaning) (d : Accepted) : Type 0 where

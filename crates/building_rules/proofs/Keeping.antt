@@ -1,10 +1,10 @@
 -- What is stored of selections is exactly what is kept, in the order in which it was handed in.
-use Rattle.std.proofs.Common.{◌≡◌, ℕ, ◌↔◌, sym, refl, subst}
+use Rattle.std.proofs.Common.{ℕ, subst}
 use Rattle.layout.specs.Forest.{Forest, none, row}
 use Rattle.document.specs.Rows.{Selection}
 use Rattle.schema.specs.Meaning.{Meaning}
 use Rattle.selection_rules.specs.declared.settling.Settled.{Settled}
-use Rattle.selection_rules.specs.Stored.{Form, form_of, Stored, stored_in}
+use Rattle.selection_rules.specs.Stored.{form_of, Stored}
 use Rattle.selection_rules.specs.Sets.{settled_in}
 use Rattle.selection_rules.specs.Sets.{some_row, keep, build}
 use Rattle.building_rules.specs.Rules.{Inside}

@@ -1,9 +1,9 @@
 -- Names that are taken one by one are each new exactly when each stands once, and the same of an anonymous operation.
-use Rattle.std.proofs.Common.{◌≡◌, ℕ, suc, ◌+◌, ◌<◌, ◌≤◌, Bool, true, false, cond, ◌&&◌, eqb, ◌≢◌, ◌⊎◌, List, [], ◌∷◌, ◌++◌, length, Some, None, filter, Option, sym, refl, ap, ◌∙◌, subst, inl, inr, ⊎_elim, arith}
-use Rattle.std.proofs.lemmas.Bool.{eqb-true, eqb-false, eq-eqb, ne_eqb, cases_lt}
+use Rattle.std.proofs.Common.{◌≡◌, ℕ, suc, ◌+◌, ◌<◌, ◌≤◌, Bool, true, false, cond, ◌&&◌, eqb, List, [], ◌∷◌, length, Some, None, filter, Option, refl, ap, ⊎_elim, arith}
+use Rattle.std.proofs.lemmas.Bool.{eqb-true, eq-eqb, cases_lt}
 use Rattle.std.specs.List.{AllByRecursion as All}
 use Rattle.building_rules.specs.Definitions.{Accepted, Role, anonymous_operation, named_operation, fragment, type_system, role_of, Taken, taken, taken_at}
-use Rattle.building_rules.specs.Rules.{operation_role, anonymous_role, named_role, is_operation, is_anonymous, is_named, operations, anonymous_operations}
+use Rattle.building_rules.specs.Rules.{operation_role, anonymous_role, named_role, is_anonymous, is_named, operations, anonymous_operations}
 
 abbrev pub named_by : (Accepted → Bool) → ℕ → List Accepted → List Accepted
 named_by p n ds = filter (λ d. p d && eqb n d.head.name) ds

@@ -1,5 +1,5 @@
 -- Selections list no error exactly when they keep the rules on selections, and then all of them are kept.
-use Rattle.std.proofs.Common.{◌≡◌, ℕ, Bool, true, false, eqb, ◌≢◌, List, [], ◌∷◌, ◌++◌, Ok, sym, refl, ap, ◌∙◌, subst, arith}
+use Rattle.std.proofs.Common.{◌≡◌, ℕ, Bool, true, false, eqb, ◌≢◌, List, [], ◌∷◌, ◌++◌, Ok, refl, ap, ◌∙◌, arith}
 use Rattle.std.proofs.lemmas.Bool.{eqb-true, eqb-false}
 use Rattle.layout.specs.Forest.{Forest, none, row}
 use Rattle.document.specs.Rows.{Selection}
@@ -8,7 +8,7 @@ use Rattle.schema.specs.Meaning.{Meaning, Closed}
 use Rattle.schema.specs.Law.{Lawful}
 use Rattle.selection_rules.specs.declared.settling.Settled.{Settled}
 use Rattle.selection_rules.specs.declared.settling.Settled.TheVariants.{Kept}
-use Rattle.selection_rules.specs.Stored.{Form, field, spread, inline, form_of, stored_in}
+use Rattle.selection_rules.specs.Stored.{Form, field, spread, inline, form_of}
 use Rattle.selection_rules.specs.Sets.{settled_in}
 use Rattle.selection_rules.specs.Errors.{Path, Error}
 use Rattle.selection_rules.specs.Sets.{path_to, some_row, listed, errors, keep, build}

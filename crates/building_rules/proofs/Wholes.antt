@@ -1,10 +1,9 @@
 -- Of a valid document everything is kept.
 use Rattle.std.proofs.Common.{◌≡◌, ℕ, Bool, true, false, cond, ◌||◌, List, [], ◌∷◌, ◌++◌, map, Some, None, filter, Option, refl, ap, ◌∙◌}
-use Rattle.document.specs.Document.{Definition}
 use Rattle.schema.specs.Meaning.{Meaning, Closed}
 use Rattle.schema.specs.Law.{Lawful}
 use Rattle.building_rules.specs.Definitions.{Accepted, Role, anonymous_operation, named_operation, fragment, type_system, role_of, operation_of, start_path, Kept, Taken, taken_at, State, fresh, with_anonymous, with_operation, rooted, add_anonymous, add_named, add_fragment, beside, step_of, step, errors_from, kept_from}
-use Rattle.building_rules.specs.Rules.{operation_role, fragment_role, is_executable, Valid}
+use Rattle.building_rules.specs.Rules.{operation_role, fragment_role, is_executable}
 use Rattle.building_rules.specs.Whole.{handed_for, definition_of, ValidIsKeptWhole}
 use Rattle.building_rules.proofs.Rows.{no_cons, both_nil, all_kept}
 use Rattle.building_rules.proofs.Joined.{no_errors_exactly_when_valid}

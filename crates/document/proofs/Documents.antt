@@ -1,22 +1,21 @@
 -- Tables without a fault are the layout of a document, the layout of a document is without a fault, and there is one only.
-use Rattle.std.proofs.Common.{◌≡◌, ℕ, zero, suc, ◌+◌, ◌-◌, ◌<◌, ◌≤◌, Bool, true, false, cond, not, ◌&&◌, ◌||◌, eqb, ltb, List, [], ◌∷◌, ◌++◌, map, length, get_or, take, drop, Some, None, Option, sym, refl, ap, ◌∙◌, subst, ⊎_elim, append-nil, arith}
-use Rattle.std.proofs.lemmas.List.{drop_all, drop_at, drop-drop, take_at, length-append, length-drop, nil_from_length}
-use Rattle.std.proofs.lemmas.Bool.{cond-false, eq-eqb, ne_eqb, le-ltb, ltb-false, or_from, and_left, and_right, not_from_true, cases_Bool, false≢true}
+use Rattle.std.proofs.Common.{◌≡◌, ℕ, ◌+◌, ◌≤◌, Bool, true, false, cond, not, ◌&&◌, eqb, ltb, List, [], ◌∷◌, ◌++◌, map, length, take, drop, Some, None, Option, sym, refl, ap, ◌∙◌, arith}
+use Rattle.std.proofs.lemmas.List.{drop_all, drop_at, drop-drop, take_at, length-append, length-drop}
+use Rattle.std.proofs.lemmas.Bool.{cond-false, eq-eqb, le-ltb, ltb-false, or_from, not_from_true, false≢true}
 use Rattle.refusal.specs.Firsts.{at_row, or_else}
 use Rattle.refusal.proofs.Firsts.{at_row_none, or_else_none}
 use Rattle.layout.specs.declared.row.RowView.{RowView}
 use Rattle.layout.specs.declared.row.Misfit.{Misfit}
-use Rattle.layout.specs.Forest.{Forest, none, row, size, depth, flatten, Each}
+use Rattle.layout.specs.Forest.{Forest, size, flatten}
 use Rattle.layout.specs.Places.{first_misfit}
-use Rattle.layout.specs.Shapes.{Shape, Stand, Lawful, read}
+use Rattle.layout.specs.Shapes.{read}
 use Rattle.layout.proofs.Tables.{length-flatten, read-flatten}
 use Rattle.layout.proofs.Forests.{lawful, clean}
 use Rattle.document.specs.declared.rows.DefinitionRow.{DefinitionRow}
 use Rattle.document.specs.declared.rows.SelectionRow.{SelectionRow}
-use Rattle.document.specs.declared.fault.DocumentFault.{DocumentFault}
-use Rattle.document.specs.declared.fault.DocumentFault.TheVariants.{TooManyDefinitions, TooManyRows, NoDefinition, InDefinitions}
-use Rattle.document.specs.Rows.{Selection, Head, selections, selection_rules, selection_row, selection_view, definition_row, head_of, head_unnamed, head_broken, is_type_system}
-use Rattle.document.specs.Document.{Definition, definition_rows, selection_rows, KeepsRules, AllKeep, IsDocument}
+use Rattle.document.specs.declared.fault.DocumentFault.TheVariants.{TooManyDefinitions, TooManyRows, InDefinitions}
+use Rattle.document.specs.Rows.{Selection, selections, selection_rules, selection_row, selection_view, definition_row, head_of, is_type_system}
+use Rattle.document.specs.Document.{Definition, definition_rows, selection_rows, AllKeep, IsDocument}
 use Rattle.document.specs.Verdict.{misplaced, definition_fault, definitions_fault, is_nil, in_rows, rows_fault, size_fault, orphan_fault, layout_fault, document_fault}
 use Rattle.document.specs.Sets.{no_row}
 use Rattle.document.proofs.Steps.{Placed, placed}

@@ -1,8 +1,6 @@
 -- Path keys: what one selection more adds, and that they stay few.
-use Rattle.std.proofs.Common.{◌≡◌, ℕ, zero, suc, ◌+◌, ◌*◌, ◌<◌, ◌≤◌, max, Bool, true, false, cond, ◌||◌, List, [], ◌∷◌, length, get_or, drop, Some, None, count_by, Option, sym, refl, ap, ◌∙◌, subst, arith}
-use Rattle.std.proofs.lemmas.Bool.{cases_Bool, cond-true, cond-false}
+use Rattle.std.proofs.Common.{◌≡◌, ℕ, zero, suc, ◌+◌, ◌*◌, ◌<◌, ◌≤◌, max, Bool, true, false, cond, List, [], ◌∷◌, length, get_or, drop, Some, None, count_by, sym, refl, ap, ◌∙◌, subst, arith}
 use Rattle.layout.specs.Forest.{Forest, none, row, size, depth, flatten}
-use Rattle.layout.specs.Shapes.{Stand}
 use Rattle.layout.proofs.Tables.{forest_read, length-flatten}
 use Rattle.document.specs.declared.rows.SelectionRow.{SelectionRow}
 use Rattle.document.specs.declared.handed.sets.SelectionSet.{SelectionSet}

@@ -1,15 +1,14 @@
 -- The sets that are read off a document stand for its forests.
-use Rattle.std.proofs.Common.{◌≡◌, ℕ, zero, suc, ◌+◌, ◌-◌, ◌<◌, ◌≤◌, Bool, true, false, cond, ◌||◌, leb, List, [], ◌∷◌, ◌++◌, length, get_or, drop, Some, None, Option, sym, refl, ap, ◌∙◌, subst, ⊎_elim, arith}
+use Rattle.std.proofs.Common.{◌≡◌, ℕ, zero, suc, ◌+◌, ◌<◌, ◌≤◌, List, [], ◌∷◌, ◌++◌, length, get_or, drop, Some, sym, refl, ap, ◌∙◌, subst, ⊎_elim, arith}
 use Rattle.std.proofs.lemmas.List.{drop_at, drop-drop, length-append, length-drop, get_or_past}
 use Rattle.std.proofs.lemmas.Bool.{cond-true, cond-false, le-leb, lt-leb, or_left, or_from, cases_lt}
 use Rattle.layout.specs.Forest.{Forest, none, row, size, flatten}
 use Rattle.layout.specs.Shapes.{Stand}
-use Rattle.layout.proofs.Tables.{length-flatten, Opened, opened}
+use Rattle.layout.proofs.Tables.{length-flatten, opened}
 use Rattle.document.specs.declared.rows.DefinitionRow.{DefinitionRow}
 use Rattle.document.specs.declared.rows.SelectionRow.{SelectionRow}
 use Rattle.document.specs.declared.handed.sets.SelectionSet.{SelectionSet}
-use Rattle.document.specs.declared.handed.sets.SelectionStep.{SelectionStep}
-use Rattle.document.specs.Rows.{Selection, selections, selection_of, selection_row, definition_row}
+use Rattle.document.specs.Rows.{Selection, selections, selection_of, selection_row}
 use Rattle.document.specs.Document.{Definition, no_definition, definition_rows, selection_rows, IsDocument}
 use Rattle.document.specs.Sets.{no_row, no_definition_row, set_of, set_for, step_at, next_of, Holds, Follows}
 

@@ -1,16 +1,14 @@
 -- The steps of the check: one definition more.
-use Rattle.std.proofs.Common.{◌≡◌, ℕ, zero, suc, ◌+◌, ◌<◌, ◌≤◌, min, Bool, true, false, cond, not, ◌&&◌, ◌||◌, eqb, ltb, List, [], ◌∷◌, map, length, get_or, drop, Some, None, Option, sym, refl, ap, ◌∙◌, ⊎_elim, arith}
-use Rattle.std.proofs.lemmas.List.{at_drop_more, at_drop_all}
-use Rattle.std.proofs.lemmas.Bool.{eq-eqb, ne_eqb, eqb-true, not-false, cases_eq, cases_Bool, or_parts, ltb-false, false≢true}
+use Rattle.std.proofs.Common.{◌≡◌, ℕ, zero, suc, ◌+◌, ◌<◌, ◌≤◌, min, Bool, true, false, cond, not, ◌&&◌, ◌||◌, eqb, ltb, List, [], ◌∷◌, length, get_or, drop, Some, None, Option, sym, refl, ap, ◌∙◌, ⊎_elim, arith}
+use Rattle.std.proofs.lemmas.List.{at_drop_more}
+use Rattle.std.proofs.lemmas.Bool.{eq-eqb, ne_eqb, eqb-true, not-false, cases_eq, or_parts, ltb-false, false≢true}
 use Rattle.refusal.specs.Firsts.{at_row, or_else}
 use Rattle.refusal.proofs.Firsts.{at_row_none}
-use Rattle.layout.specs.declared.row.RowFault.{RowFault}
 use Rattle.layout.specs.declared.row.RowFault.TheVariants.{NameMissing, Broken}
 use Rattle.layout.specs.declared.row.RowView.{RowView}
 use Rattle.layout.specs.declared.row.Misfit.{Misfit}
 use Rattle.layout.specs.Places.{first_misfit}
 use Rattle.document.specs.declared.rows.DefinitionRow.{DefinitionRow}
-use Rattle.document.specs.declared.fault.DocumentFault.{DocumentFault}
 use Rattle.document.specs.declared.fault.DocumentFault.TheVariants.{InDefinitions}
 use Rattle.document.specs.Sets.{no_definition_row}
 use Rattle.document.specs.Rows.{head_of, head_unnamed, head_broken, is_type_system}

@@ -1,6 +1,6 @@
 -- A document: a list of definitions, each with a forest of selections; and how it is laid out in two tables.
-use Rattle.std.specs.Prelude.{◌≡◌, ℕ, ◌+◌, ◌*◌, ◌≤◌, Bool, true, false, List, [], ◌∷◌, ◌++◌, length}
-use Rattle.layout.specs.Forest.{Forest, none, row, size, depth, flatten, Each}
+use Rattle.std.specs.Prelude.{◌≡◌, ℕ, ◌+◌, ◌≤◌, true, false, List, [], ◌∷◌, ◌++◌, length}
+use Rattle.layout.specs.Forest.{Forest, none, size, depth, flatten, Each}
 use Rattle.layout.specs.Shapes.{Keeps}
 use Rattle.document.specs.declared.rows.DefinitionRow.{DefinitionRow}
 use Rattle.document.specs.declared.rows.SelectionRow.{SelectionRow}

@@ -1,5 +1,5 @@
 -- How many places building a document can need.
-use Rattle.std.specs.Prelude.{ℕ, ◌+◌, ◌*◌, Bool, cond, List, [], ◌∷◌, length, count_by}
+use Rattle.std.specs.Prelude.{ℕ, ◌+◌, ◌*◌, cond, List, [], ◌∷◌, length, count_by}
 use Rattle.layout.specs.Forest.{Forest, none, row, size}
 use Rattle.document.specs.declared.handed.needs.Needs.{Needs}
 use Rattle.document.specs.Rows.{Selection, is_field, is_fragment, named_operation}

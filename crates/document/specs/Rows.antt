@@ -1,5 +1,5 @@
 -- What rows hold besides their places, and the rules of their members.
-use Rattle.std.specs.Prelude.{◌≡◌, ℕ, Bool, true, false, cond, not, ◌&&◌, ◌||◌, ◌==◌, nat_le, nat_lt, refl}
+use Rattle.std.specs.Prelude.{ℕ, Bool, true, cond, not, ◌&&◌, ◌||◌, ◌==◌, nat_le, nat_lt, refl}
 use Rattle.layout.specs.declared.row.RowView.{RowView}
 use Rattle.layout.specs.Shapes.{Shape, Rules, view_of}
 use Rattle.document.specs.declared.rows.DefinitionRow.{DefinitionRow}

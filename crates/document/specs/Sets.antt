@@ -1,6 +1,6 @@
 -- Sets of selections, as they are read from the rows: each stands for a forest.
-use Rattle.std.specs.Prelude.{◌≡◌, ℕ, ◌+◌, ◌≤◌, Bool, cond, ◌||◌, List, length, get_or, Some, None, Option, nat_le, slice_index_or}
-use Rattle.layout.specs.Forest.{Forest, none, row, size}
+use Rattle.std.specs.Prelude.{◌≡◌, ℕ, ◌+◌, ◌≤◌, cond, ◌||◌, List, length, get_or, Some, None, Option, nat_le, slice_index_or}
+use Rattle.layout.specs.Forest.{Forest, none, row}
 use Rattle.layout.specs.Shapes.{Stand}
 use Rattle.document.specs.declared.rows.DefinitionRow.{DefinitionRow}
 use Rattle.document.specs.declared.rows.SelectionRow.{SelectionRow}

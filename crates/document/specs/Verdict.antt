@@ -1,5 +1,5 @@
 -- The first fault of two tables that are handed over as a document.
-use Rattle.std.specs.Prelude.{◌≡◌, ℕ, ◌+◌, Bool, true, false, cond, not, ◌&&◌, ◌||◌, List, [], ◌∷◌, map, length, Some, None, Ok, Err, Option, Result, ◌==◌, nat_lt}
+use Rattle.std.specs.Prelude.{ℕ, ◌+◌, Bool, true, false, cond, not, ◌&&◌, ◌||◌, List, [], ◌∷◌, map, length, Some, None, Ok, Err, Option, Result, ◌==◌, nat_lt}
 use Rattle.refusal.specs.Firsts.{at_row, or_else}
 use Rattle.refusal.specs.declared.Layer.TheVariants.{DocumentTables}
 use Rattle.refusal.specs.declared.Refusal.{Refusal}

@@ -1,14 +1,14 @@
 -- Rows without a misfit are those of a forest that keeps the rules, and the rows of such a forest are without one.
-use Rattle.std.proofs.Common.{◌≡◌, ℕ, zero, suc, ◌+◌, ◌-◌, ◌<◌, ◌≤◌, max, Bool, true, false, eqb, List, [], ◌∷◌, ◌++◌, map, length, get_or, drop, Some, None, sym, refl, ap, ◌∙◌, subst, ⊎_elim, arith}
+use Rattle.std.proofs.Common.{◌≡◌, ℕ, zero, suc, ◌+◌, ◌-◌, ◌<◌, ◌≤◌, eqb, List, map, length, get_or, drop, None, sym, ap, ◌∙◌, subst, ⊎_elim, arith}
 use Rattle.std.proofs.lemmas.List.{get_or-map}
 use Rattle.std.proofs.lemmas.Bool.{ne_eqb, eqb-false, cases_eq}
 use Rattle.refusal.specs.Firsts.{first_fault, or_else}
 use Rattle.refusal.proofs.Firsts.{first_same, no_fault, or_else_none}
 use Rattle.layout.specs.declared.row.RowView.{RowView}
-use Rattle.layout.specs.Forest.{Forest, none, row, size, depth, flatten, Each}
+use Rattle.layout.specs.Forest.{Forest, none, row, size}
 use Rattle.layout.specs.Places.{no_view, end_at, own_fault, fault_in, misfit, first_misfit}
 use Rattle.layout.specs.Shapes.{Shape, Rules, Keeps, Stand, Lawful, view_of}
-use Rattle.layout.proofs.Tables.{Opened, opened, joined}
+use Rattle.layout.proofs.Tables.{opened, joined}
 use Rattle.layout.proofs.Windows.{Fits, fits, fine, Closed, fault_next_row, fault_behind, search_step, closed_next}
 
 module _ {A R : Type 0} (h : Shape A R) (rules : Rules A) (rows : List R) (d : R) where

@@ -1,6 +1,6 @@
 -- A row in a range, and in the smaller range beneath a row: what encloses it, how deep it stands, what is wrong with it.
-use Rattle.std.proofs.Common.{◌≡◌, ℕ, zero, suc, ◌+◌, ◌-◌, ◌<◌, ◌≤◌, Bool, true, false, cond, not, ◌&&◌, ◌||◌, eqb, ltb, leb, ◌⊎◌, List, length, get_or, IfSome, Some, None, Option, sym, refl, ap, ◌∙◌, subst, inl, inr, ⊎_elim, arith}
-use Rattle.std.proofs.lemmas.Bool.{cond-true, cond-false, cond_both, lt-ltb, le-ltb, le-leb, lt-leb, leb-true, leb-false, ltb-false, eqb-true, eqb-false, eq-eqb, ne_eqb, or_parts, or_from, and_cases, and_left, and_right, not_from_true, not-false, cases_eq, cases_lt, cases_Bool, false≢true}
+use Rattle.std.proofs.Common.{◌≡◌, ℕ, zero, suc, ◌+◌, ◌-◌, ◌<◌, ◌≤◌, Bool, true, false, cond, not, ◌&&◌, eqb, ltb, leb, List, get_or, IfSome, Some, None, Option, sym, refl, ap, ◌∙◌, subst, ⊎_elim, arith}
+use Rattle.std.proofs.lemmas.Bool.{cond-true, cond-false, cond_both, lt-ltb, le-ltb, le-leb, lt-leb, leb-false, ltb-false, eqb-true, eqb-false, eq-eqb, ne_eqb, or_parts, or_from, and_cases, and_left, and_right, not_from_true, not-false, cases_eq, cases_lt, cases_Bool, false≢true}
 use Rattle.refusal.specs.Firsts.{at_row, first_fault, or_else}
 use Rattle.refusal.proofs.Firsts.{fault_next, fault_here, first_same, first_parts, no_fault}
 use Rattle.layout.specs.declared.row.RowFault.{RowFault}

@@ -1,5 +1,5 @@
 -- Forests, and their rows: each row is followed by the rows beneath it, and its end is the place after them.
-use Rattle.std.specs.Prelude.{◌≡◌, ℕ, zero, suc, ◌+◌, max, List, [], ◌∷◌, ◌++◌}
+use Rattle.std.specs.Prelude.{ℕ, suc, ◌+◌, max, List, [], ◌∷◌, ◌++◌}
 
 -- first row, what stands beneath it, and the rows after it on the same level
 pub data Forest (A : Type 0) : Type 0 where

@@ -1,12 +1,11 @@
 -- One key more.
-use Rattle.std.proofs.Common.{◌≡◌, ℕ, ◌+◌, ◌/◌, ◌%◌, ◌<◌, ◌≤◌, min, Bool, true, false, cond, ltb, ◌≢◌, ◌⊎◌, List, [], ◌∷◌, ◌++◌, length, get_or, set, sym, refl, ap, ◌∙◌, subst, inl, inr, ⊎_elim, arith}
+use Rattle.std.proofs.Common.{◌≡◌, ℕ, ◌+◌, ◌/◌, ◌%◌, ◌<◌, ◌≤◌, min, Bool, cond, ltb, ◌≢◌, List, [], ◌∷◌, ◌++◌, length, get_or, set, sym, ap, ◌∙◌, subst, ⊎_elim, arith}
 use Rattle.std.proofs.lemmas.List.{length-set, length_push, get_or-set_same, get_or-set_other, get_or_append_left, get_or_push}
 use Rattle.std.proofs.lemmas.List.Sums.{sum_by-set}
 use Rattle.std.proofs.lemmas.Bool.{lt-ltb, cases_eq, cases_lt}
-use Rattle.ordered_index.specs.Law.{Lawful}
 use Rattle.ordered_index.specs.Slots.{spot, held, used, limit}
 use Rattle.ordered_index.specs.Sound.{Reached, Sound, Absent}
-use Rattle.ordered_index.proofs.Ways.{Missed, AllMissed, Ends}
+use Rattle.ordered_index.proofs.Ways.{Ends}
 
 module _ (slots : List ℕ) (s v : ℕ) (inside : s < length slots) (vacant : get_or slots s 0 ≡ 0) where
   -- a slot in use stays as it was

@@ -1,16 +1,16 @@
 -- What a probe comes to on a sound index: where a key is, and that the index stays sound with one key more.
-use Rattle.std.proofs.Common.{◌≡◌, ℕ, ◌+◌, ◌<◌, ◌≤◌, Bool, true, false, cond, ◌&&◌, ltb, leb, List, [], ◌∷◌, ◌++◌, map, length, get_or, take, set, Some, None, Option, sym, refl, ap, ◌∙◌, subst, arith}
+use Rattle.std.proofs.Common.{◌≡◌, ℕ, ◌+◌, ◌<◌, Bool, true, false, ◌&&◌, ltb, leb, List, [], ◌∷◌, ◌++◌, map, length, get_or, take, set, Some, None, Option, sym, refl, ap, ◌∙◌, subst, arith}
 use Rattle.std.proofs.lemmas.List.{length-map, length-take-le, map_push, take_more_set, take_all, get_or-map}
 use Rattle.std.proofs.lemmas.Bool.{and_parts, leb-true, ltb-true, le-leb, lt-ltb}
 use Rattle.ordered_index.specs.Law.{Lawful}
 use Rattle.ordered_index.specs.Slots.{limit}
 use Rattle.ordered_index.specs.Sound.{Sound, Located}
 use Rattle.ordered_index.specs.Probing.{probe_for, found_at}
-use Rattle.ordered_index.specs.Entering.{enter_room, insert_room, entered, present, slots_after, entries_after, keys_after, count_after}
+use Rattle.ordered_index.specs.Entering.{enter_room, insert_room, entered, present, slots_after, keys_after}
 use Rattle.ordered_index.specs.declared.probe.Probed.{Probed}
 use Rattle.ordered_index.specs.declared.probe.Probed.TheVariants.{Found, Vacant, Round}
 use Rattle.ordered_index.specs.declared.index.Entered.{Entered}
-use Rattle.ordered_index.specs.declared.index.Entered.TheVariants.{Present, Added, Full}
+use Rattle.ordered_index.specs.declared.index.Entered.TheVariants.{Added, Full}
 use Rattle.ordered_index.proofs.Ways.{Outcome, Meets}
 use Rattle.ordered_index.proofs.Probes.{outcome}
 use Rattle.ordered_index.proofs.Places.{meets_only, ends_absent, round_absent, one_met, ends_not_met, round_not_met}

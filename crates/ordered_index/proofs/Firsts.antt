@@ -4,7 +4,7 @@ use native.Mathlib.Nat.{min-le_right}
 use Rattle.std.proofs.lemmas.List.{take_all, map_more, length-map, length-take}
 use Rattle.std.proofs.lemmas.Bool.{cond-true, cond-false, cases_Bool}
 use Rattle.ordered_index.specs.Firsts.{first_place, place_of}
-use Rattle.ordered_index.specs.Sound.{Located, Only, Absent, keys_of}
+use Rattle.ordered_index.specs.Sound.{Located, Only, keys_of}
 
 -- no element passes
 pub first_none : {X : Type 0} (p : X → Bool) (xs : List X) (k : ℕ) → ((n : ℕ) (d : X) → n < length xs → p (get_or xs n d) ≡ false) → first_place p xs k ≡ None

@@ -1,11 +1,11 @@
 -- What the end of a probe says of a sound index, and what says that an index is sound.
-use Rattle.std.proofs.Common.{◌≡◌, ℕ, zero, suc, ◌+◌, ◌<◌, ◌≤◌, Bool, true, false, ◌⊎◌, List, length, get_or, sym, refl, ap, ◌∙◌, subst, inl, inr, ⊎_elim, arith}
+use Rattle.std.proofs.Common.{◌≡◌, ℕ, zero, suc, ◌+◌, ◌<◌, ◌≤◌, Bool, true, ◌⊎◌, List, length, get_or, sym, ap, ◌∙◌, subst, inl, inr, ⊎_elim, arith}
 use Rattle.std.proofs.lemmas.List.{get_or_default}
-use Rattle.std.proofs.lemmas.Bool.{both_ways, cases_Bool, cases_order, cases_lt, cases_eq}
+use Rattle.std.proofs.lemmas.Bool.{both_ways, cases_Bool, cases_order, cases_eq}
 use Rattle.ordered_index.specs.Law.{Lawful}
-use Rattle.ordered_index.specs.Slots.{spot, held, used, limit, PowerOfTwo}
+use Rattle.ordered_index.specs.Slots.{held, used, limit, PowerOfTwo}
 use Rattle.ordered_index.specs.Sound.{Reached, Sound, Absent, Stands, Only}
-use Rattle.ordered_index.proofs.Ways.{Missed, AllMissed, Meets, Ends}
+use Rattle.ordered_index.proofs.Ways.{AllMissed, Meets, Ends}
 
 -- the first way that holds n
 pub record First (slots : List ℕ) (h n w : ℕ) : Type 0 where

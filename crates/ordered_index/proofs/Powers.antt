@@ -1,5 +1,5 @@
 -- A number with one digit set is a power of two.
-use Rattle.std.proofs.Common.{◌≡◌, ℕ, suc, ◌+◌, ◌*◌, ◌/◌, ◌%◌, ◌^◌, ◌<◌, ◌⊎◌, sym, refl, ap, ◌∙◌, ⊎_elim, mod-lt, pow-suc, arith, pow_pos}
+use Rattle.std.proofs.Common.{◌≡◌, ℕ, suc, ◌+◌, ◌*◌, ◌/◌, ◌%◌, ◌^◌, refl, ap, ◌∙◌, ⊎_elim, pow-suc, arith, pow_pos}
 use lib.Arith.{bin_ind}
 use lib.Count.{ones, ones_step, ones_cat}
 use Rattle.std.proofs.lemmas.Bool.{cases_eq}

@@ -1,13 +1,12 @@
 -- The steps of the defined probe, and that what it comes to is its outcome as a relation.
-use Rattle.std.proofs.Common.{◌≡◌, ℕ, zero, suc, ◌+◌, ◌-◌, ◌%◌, ◌<◌, ◌≤◌, Bool, true, false, cond, ◌&&◌, eqb, leb, ◌⊎◌, List, map, length, get_or, sym, refl, ap, ◌∙◌, subst, ⊎_elim, add-zero, add_assoc, mod-lt, arith, below_more}
+use Rattle.std.proofs.Common.{◌≡◌, ℕ, zero, suc, ◌+◌, ◌-◌, ◌%◌, ◌<◌, ◌≤◌, Bool, true, false, ◌&&◌, eqb, leb, List, map, length, get_or, sym, refl, ap, ◌∙◌, subst, ⊎_elim, add-zero, add_assoc, mod-lt, arith, below_more}
 use native.Mathlib.Nat.{mod-add-mod}
 use Rattle.std.proofs.lemmas.List.{get_or_default, get_or-map, length-map}
-use Rattle.std.proofs.lemmas.Bool.{cond-true, cond-false, cond_both, eq-eqb, ne_eqb, eqb-true, eqb-false, leb-true, leb-false, le-leb, lt-leb, and_left, and_right, and_from, and_parts, and_cases}
+use Rattle.std.proofs.lemmas.Bool.{cond-true, cond-false, cond_both, eq-eqb, ne_eqb, eqb-true, eqb-false, leb-true, leb-false, le-leb, lt-leb, and_left, and_parts, and_cases}
 use Rattle.ordered_index.specs.Slots.{spot, held, slot_after, slot_start}
-use Rattle.ordered_index.specs.Probing.{names, probe, probe_for}
-use Rattle.ordered_index.specs.declared.probe.Probed.{Probed}
+use Rattle.ordered_index.specs.Probing.{names, probe}
 use Rattle.ordered_index.specs.declared.probe.Probed.TheVariants.{Found, Vacant, Round}
-use Rattle.ordered_index.proofs.Ways.{Missed, AllMissed, Meets, Ends, Outcome}
+use Rattle.ordered_index.proofs.Ways.{Missed, AllMissed, Outcome}
 
 module _ {K : Type 0} (equal : K → K → Bool) (keys : List K) (slots : List ℕ) (q : K) where
   -- an empty slot ends the probe

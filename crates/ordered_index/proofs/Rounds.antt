@@ -1,12 +1,12 @@
 -- A probe that goes round has seen each slot, so a sound index, which has an empty one, stops it before.
-use Rattle.std.proofs.Common.{◌≡◌, ℕ, zero, suc, ◌+◌, ◌-◌, ◌/◌, ◌%◌, ◌<◌, ◌≤◌, Bool, true, false, cond, ltb, ◌⊎◌, List, [], ◌∷◌, length, get_or, sym, refl, ap, ◌∙◌, subst, ⊎_elim, mod-lt, mod-eq_of_lt, arith, pow_pos}
+use Rattle.std.proofs.Common.{◌≡◌, ℕ, suc, ◌+◌, ◌-◌, ◌/◌, ◌%◌, ◌<◌, ◌≤◌, Bool, cond, ltb, List, [], ◌∷◌, length, get_or, sym, refl, ap, ◌∙◌, subst, ⊎_elim, mod-lt, mod-eq_of_lt, arith, pow_pos}
 use native.Mathlib.Nat.{min-le_left, add-mod-mod, mod-add-mod, add-mod_right}
 use Rattle.std.proofs.lemmas.List.Sums.{sum_by-cons}
 use Rattle.std.proofs.lemmas.List.{get_or_past}
 use Rattle.std.proofs.lemmas.Bool.{lt-ltb, cases_lt}
-use Rattle.ordered_index.specs.Slots.{spot, held, used, limit, PowerOfTwo}
+use Rattle.ordered_index.specs.Slots.{used, PowerOfTwo}
 use Rattle.ordered_index.specs.Sound.{Sound}
-use Rattle.ordered_index.proofs.Ways.{Missed, AllMissed}
+use Rattle.ordered_index.proofs.Ways.{AllMissed}
 
 -- each slot comes up
 pub comes_up : (n h s : ℕ) → s < n → (d : ℕ) × (d < n) × ((h + d) % n ≡ s)

@@ -1,5 +1,5 @@
 -- Where a probe ends, as relations: what it passed on its way, and what it met.
-use Rattle.std.proofs.Common.{◌≡◌, ℕ, ◌+◌, ◌<◌, Bool, true, false, List, length, get_or, sym, ap, ◌∙◌}
+use Rattle.std.proofs.Common.{◌≡◌, ℕ, ◌+◌, ◌<◌, Bool, true, false, List, length, get_or}
 use Rattle.ordered_index.specs.Slots.{spot, held}
 use Rattle.ordered_index.specs.declared.probe.Probed.{Probed}
 use Rattle.ordered_index.specs.declared.probe.Probed.TheVariants.{Found, Vacant, Round}

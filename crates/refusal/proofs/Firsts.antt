@@ -1,5 +1,5 @@
 -- The steps of a search for the first fault, and what its absence says of each row.
-use Rattle.std.proofs.Common.{◌≡◌, ℕ, zero, suc, ◌+◌, ◌<◌, Some, None, Option, sym, refl, ap, ◌∙◌, arith}
+use Rattle.std.proofs.Common.{◌≡◌, ℕ, zero, suc, ◌+◌, ◌<◌, Some, None, Option, refl, ap, ◌∙◌, arith}
 use Rattle.refusal.specs.Firsts.{at_row, first_fault, or_else}
 
 module _ {F G : Type 0} (told : F → ℕ → G) (fault : ℕ → Option F) where

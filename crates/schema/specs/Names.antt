@@ -1,5 +1,5 @@
 -- The texts of the fixed names. Assumes nothing.
-use Rattle.std.specs.Prelude.{ℕ, ◌-◌, cond, List, [], ◌∷◌, Some, None, codes, Option, ◌==◌}
+use Rattle.std.specs.Prelude.{ℕ, cond, List, Some, None, codes, Option, ◌==◌}
 
 -- The text of the fixed name of this number, as its bytes; the names are numbered from 1.
 abbrev pub fixed_text : ℕ → Option (List ℕ)

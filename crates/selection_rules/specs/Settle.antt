@@ -1,12 +1,11 @@
 -- What becomes of one selection, by what the schema answers: the rules of the specification on fields and conditions.
-use Rattle.std.specs.Prelude.{ℕ, Bool, true, false, cond, Some, None, Ok, Err, Option, Result, ◌==◌}
+use Rattle.std.specs.Prelude.{ℕ, Bool, cond, Some, None, Ok, Err, Option, Result, ◌==◌}
 use Rattle.schema.specs.declared.answers.TypeKind.{TypeKind}
 use Rattle.schema.specs.declared.answers.TypeKind.TheVariants.{Scalar, Object, Interface, Union, Enum, InputObject}
 use Rattle.schema.specs.declared.answers.FieldDefinition.{FieldDefinition}
 use Rattle.schema.specs.declared.answers.FieldLookupError.{FieldLookupError}
 use Rattle.schema.specs.declared.answers.FieldLookupError.TheVariants.{NoSuchType, NoSuchField}
 use Rattle.document.specs.Rows.{Selection, is_field, is_spread}
-use Rattle.selection_rules.specs.declared.settling.SelectionFault.{SelectionFault}
 use Rattle.selection_rules.specs.declared.settling.SelectionFault.TheVariants.{UnknownCondition, OnScalar, OnEnum, UnknownField}
 use Rattle.selection_rules.specs.declared.settling.Settled.{Settled}
 use Rattle.selection_rules.specs.declared.settling.Settled.TheVariants.{Kept, Dropped, Faulty}

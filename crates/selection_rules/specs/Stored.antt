@@ -1,5 +1,5 @@
 -- Stored selections: a selection with the place of its definition and the type of the set beneath it.
-use Rattle.std.specs.Prelude.{◌≡◌, ℕ, cond, refl}
+use Rattle.std.specs.Prelude.{ℕ, cond, refl}
 use Rattle.layout.specs.Shapes.{Shape}
 use Rattle.document.specs.Rows.{Selection, is_field, is_spread}
 use Rattle.selection_rules.specs.declared.stored.StoredRow.{StoredRow}

@@ -1,9 +1,9 @@
 -- How kept definitions are laid out in tables: their rows one after the other, and for each its range of them.
-use Rattle.std.specs.Prelude.{ℕ, ◌+◌, Bool, cond, List, [], ◌∷◌, ◌++◌, Some, None, Option}
-use Rattle.layout.specs.Forest.{Forest, size, flatten}
+use Rattle.std.specs.Prelude.{ℕ, ◌+◌, Bool, cond, List, [], ◌∷◌, ◌++◌, Some, Option}
+use Rattle.layout.specs.Forest.{size, flatten}
 use Rattle.document.specs.Rows.{Head}
 use Rattle.selection_rules.specs.declared.stored.StoredRow.{StoredRow}
-use Rattle.selection_rules.specs.Stored.{Stored, stored_row}
+use Rattle.selection_rules.specs.Stored.{stored_row}
 use Rattle.building_rules.specs.Definitions.{Kept, Role, role_of}
 use Rattle.building_rules.specs.Rules.{anonymous_role, named_role, fragment_role}
 use Rattle.stored_tables.specs.declared.definition.StoredDefinition.{StoredDefinition}

@@ -1,7 +1,6 @@
 -- What is found through an index, and what the first place that is found tells.
-use Rattle.std.proofs.Common.{◌≡◌, ℕ, suc, ◌+◌, ◌<◌, ◌≤◌, Bool, true, false, cond, eqb, List, [], ◌∷◌, map, length, get_or, Some, None, Option, sym, refl, ap, ◌∙◌, ⊎_elim, arith}
+use Rattle.std.proofs.Common.{◌≡◌, ℕ, suc, ◌+◌, ◌<◌, Bool, true, false, List, [], ◌∷◌, map, length, get_or, Some, None, Option, sym, refl, ap, ◌∙◌, ⊎_elim, arith}
 use Rattle.std.proofs.lemmas.Bool.{cond-true, cond-false, cases_Bool, eqb-true, eq-eqb, false≢true, and_parts}
-use Rattle.ordered_index.specs.declared.keys.TypeField.{TypeField}
 use Rattle.ordered_index.specs.Firsts.{first_place}
 use Rattle.ordered_index.specs.Sound.{Sound, keys_of}
 use Rattle.ordered_index.specs.Probing.{probe_for, found_at}

@@ -1,5 +1,5 @@
 -- The steps of the checks: what one row more does to the first fault and to the index.
-use Rattle.std.proofs.Common.{◌≡◌, ℕ, suc, ◌+◌, ◌-◌, ◌/◌, ◌^◌, ◌<◌, ◌≤◌, min, Bool, true, false, cond, ◌&&◌, ◌||◌, eqb, List, [], ◌∷◌, map, length, get_or, take, replicate, is_some, Some, None, Option, sym, refl, ap, ◌∙◌, subst, arith}
+use Rattle.std.proofs.Common.{◌≡◌, ℕ, ◌/◌, ◌^◌, min, Bool, true, false, cond, ◌||◌, eqb, List, [], ◌∷◌, map, length, get_or, replicate, is_some, Some, None, sym, refl, ap, ◌∙◌, subst, arith}
 use Rattle.std.proofs.lemmas.List.{get_or-replicate}
 use Rattle.std.proofs.lemmas.Bool.{cond-true, cond-false, and_parts, eqb-true}
 use Rattle.ordered_index.specs.Slots.{limit}
@@ -10,8 +10,8 @@ use Rattle.ordered_index.proofs.Rounds.{sound_none}
 use Rattle.schema.specs.Numbers.{kind_of_number}
 use Rattle.table_schema.specs.declared.rows.TypeRow.{TypeRow}
 use Rattle.table_schema.specs.declared.rows.FieldRow.{FieldRow}
-use Rattle.table_schema.specs.declared.fault.RowFault.TheVariants.{NameMissing, KindUnknown, Repeated, OwnerUnfit}
-use Rattle.table_schema.specs.Meaning.{named, owns, known_type, kind_of}
+use Rattle.table_schema.specs.declared.fault.RowFault.TheVariants.{Repeated, OwnerUnfit}
+use Rattle.table_schema.specs.Meaning.{owns, known_type, kind_of}
 use Rattle.table_schema.specs.Verdict.{type_fault, field_fault, owns_fields, zeros, empty_index}
 
 -- a type with a name and a kind is at fault exactly where it came before

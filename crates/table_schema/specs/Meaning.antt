@@ -1,5 +1,5 @@
 -- What rows of types and fields mean as a schema: which types are known, of which kind, with which fields.
-use Rattle.std.specs.Prelude.{ℕ, ◌+◌, Bool, true, false, cond, ◌&&◌, List, [], ◌∷◌, is_some, Some, None, Ok, Err, Option, Result, ◌==◌, slice_index_or}
+use Rattle.std.specs.Prelude.{ℕ, ◌+◌, Bool, cond, ◌&&◌, List, is_some, Some, None, Ok, Err, Option, Result, ◌==◌, slice_index_or}
 use Rattle.ordered_index.specs.Firsts.{first_place}
 use Rattle.schema.specs.declared.answers.OperationType.{OperationType}
 use Rattle.schema.specs.declared.answers.OperationType.TheVariants.{Query, Mutation, Subscription}

@@ -1,5 +1,5 @@
 -- The field lookup of the original library, `Schema::type_field`: the meta layer over the table.
-use Rattle.std.specs.Prelude.{◌≡◌, ℕ, Bool, false, List, Some, None, Ok, Err, Option, Result}
+use Rattle.std.specs.Prelude.{◌≡◌, ℕ, false, List, Some, None, Ok, Err, Result}
 use Rattle.schema.specs.declared.answers.OperationType.{OperationType}
 use Rattle.schema.specs.declared.answers.FieldDefinition.{FieldDefinition}
 use Rattle.schema.specs.declared.answers.FieldLookupError.{FieldLookupError}

@@ -11,7 +11,7 @@ use Rattle.table_schema.specs.declared.fault.RowFault.{RowFault}
 use Rattle.table_schema.specs.declared.fault.RowFault.TheVariants.{NameMissing, KindUnknown, Repeated, OwnerUnfit}
 use Rattle.table_schema.specs.declared.fault.SchemaFault.{SchemaFault}
 use Rattle.table_schema.specs.declared.fault.SchemaFault.TheVariants.{OverLimit, SlotsUnfit, InTypes, InFields}
-use Rattle.table_schema.specs.Meaning.{no_type, no_field, named, owns, known_type, kind_of}
+use Rattle.table_schema.specs.Meaning.{no_type, no_field, owns, known_type, kind_of}
 
 -- a schema holds 1,024 types and 4,096 fields
 abbrev pub over_limit : List TypeRow → List FieldRow → Bool

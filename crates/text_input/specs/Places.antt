@@ -1,5 +1,5 @@
 -- Where a line may stand among the rows of a schema and of its documents. Assumes nothing.
-use Rattle.std.specs.Prelude.{ℕ, ◌-◌, Bool, true, false, cond, Some, None, Option, ◌==◌, nat_lt}
+use Rattle.std.specs.Prelude.{◌-◌, Bool, true, false, cond, Some, None, Option, ◌==◌, nat_lt}
 use Rattle.text_input.specs.declared.keywords.Keyword.{Keyword}
 use Rattle.text_input.specs.declared.keywords.Keyword.TheVariants as keyword
 use Rattle.text_input.specs.declared.rows_left.RowsLeft.{RowsLeft}

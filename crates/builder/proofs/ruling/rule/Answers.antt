@@ -1,5 +1,5 @@
 -- What is ruled of operations and fragments is what the rules say.
-use Rattle.std.proofs.Common.{◌≡◌, sym, refl, subst, arith}
+use Rattle.std.proofs.Common.{sym, refl, subst}
 use Rattle.document.specs.Rows.{head_of}
 use Rattle.schema.specs.Meaning.{meaning}
 use Rattle.builder.specs.Holding.{taken_by, location_of, state_before}

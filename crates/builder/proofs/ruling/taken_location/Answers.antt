@@ -1,5 +1,5 @@
 -- The index is sound, so it tells the one place of the name.
-use Rattle.std.proofs.Common.{◌<◌, arith}
+use Rattle.std.proofs.Common.{arith}
 use Rattle.builder.proofs.Taken.{inside, found, missing}
 use Rattle.builder.proofs.ruling.taken_location.Goals as goal
 

@@ -1,7 +1,7 @@
 -- Each turn keeps, drops or lists one selection.
-use Rattle.std.proofs.Common.{◌≡◌, ℕ, ◌<◌, ◌≤◌, Bool, not, List, [], ◌∷◌, length, get_or, set, sym, refl, ap, ◌∙◌, subst, arith, rules}
+use Rattle.std.proofs.Common.{◌≡◌, ℕ, Bool, not, [], ◌∷◌, length, get_or, set, sym, ap, ◌∙◌, subst, arith, rules}
 use Rattle.std.proofs.lemmas.List.{length-take-le}
-use Rattle.layout.specs.Forest.{Forest, none}
+use Rattle.layout.specs.Forest.{none}
 use Rattle.document.specs.Rows.{Selection, selection_of}
 use Rattle.schema.specs.Meaning.{Meaning, meaning}
 use Rattle.selection_rules.specs.declared.settling.Settled.{Settled}
@@ -10,8 +10,7 @@ use Rattle.selection_rules.specs.declared.stored.StoredRow.{StoredRow}
 use Rattle.selection_rules.specs.Stored.{stored_in, stored_row}
 use Rattle.selection_rules.specs.Errors.{Path}
 use Rattle.selection_rules.specs.Sets.{path_to, some_row, error_of, build, errors as errors-of}
-use Rattle.builder.specs.declared.path.OpenPath.{OpenPath}
-use Rattle.builder.specs.Filling.{path_of, Output, output, with_set, Room}
+use Rattle.builder.specs.Filling.{path_of, Output, output, with_set}
 use Rattle.builder.proofs.Bounds.{some_beneath}
 use Rattle.builder.proofs.Outputs.{same_output, opened_with, still_open, no_stored_row, ended}
 use Rattle.builder.proofs.Left.{Left, begin, finish, turn, dropped, faulty, beneath, kept, few_beneath}

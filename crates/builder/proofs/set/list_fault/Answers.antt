@@ -1,7 +1,7 @@
 -- The error is listed behind the others, and its path keys stand behind the others.
-use Rattle.std.proofs.Common.{◌≡◌, ℕ, ◌+◌, List, [], ◌∷◌, length, set, sym, refl, ap, ◌∙◌, arith}
+use Rattle.std.proofs.Common.{◌≡◌, ℕ, ◌+◌, List, length, set, sym, refl, ap, ◌∙◌}
 use Rattle.document.specs.Rows.{Selection, selection_of}
-use Rattle.selection_rules.specs.Errors.{Path, Error, keys_of, path_at}
+use Rattle.selection_rules.specs.Errors.{Path, Error, keys_of}
 use Rattle.selection_rules.specs.Sets.{error_of}
 use Rattle.builder.specs.Filling.{put, path_of, output}
 use Rattle.builder.proofs.Outputs.{same_output, fault_keys, one_error}

@@ -1,5 +1,4 @@
 -- The name is not taken and there is room, so it is added.
-use Rattle.std.proofs.Common.{◌≡◌, sym, refl, ap, ◌∙◌, arith}
 use Rattle.builder.specs.Holding.{table}
 use Rattle.builder.proofs.Entries.{added}
 use Rattle.builder.proofs.store.enter_definition.Goals as goal

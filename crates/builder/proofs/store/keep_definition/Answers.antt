@@ -1,5 +1,5 @@
 -- A definition goes where its role says.
-use Rattle.std.proofs.Common.{◌≡◌, sym, refl, ap, ◌∙◌, subst, arith, rules}
+use Rattle.std.proofs.Common.{◌≡◌, sym, ap, ◌∙◌, subst, rules}
 use Rattle.building_rules.specs.Definitions.{Role}
 use Rattle.stored_tables.specs.Layout.{stored_head}
 use Rattle.builder.specs.Filling.{output}

@@ -1,5 +1,5 @@
 -- One error behind the others, or none.
-use Rattle.std.proofs.Common.{◌≡◌, ℕ, ◌+◌, List, [], length, sym, refl, ap, ◌∙◌, arith}
+use Rattle.std.proofs.Common.{◌+◌, [], length, sym, ap, ◌∙◌, arith}
 use Rattle.builder.specs.Filling.{put}
 use Rattle.builder.specs.Ruling.{maybe}
 use Rattle.builder.proofs.Puts.{put_nil, set-put}

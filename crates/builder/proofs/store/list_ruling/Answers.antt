@@ -1,7 +1,7 @@
 -- The first error, and behind it the second.
-use Rattle.std.proofs.Common.{◌≡◌, ℕ, ◌+◌, List, [], ◌++◌, length, sym, refl, ap, ◌∙◌, arith, length-append}
+use Rattle.std.proofs.Common.{[], length, sym, ap, ◌∙◌, arith, length-append}
 use Rattle.builder.specs.Filling.{put}
-use Rattle.builder.specs.Ruling.{maybe, told}
+use Rattle.builder.specs.Ruling.{maybe}
 use Rattle.builder.proofs.Puts.{put-put}
 use Rattle.builder.proofs.Outputs.{told_parts, maybe_few}
 use Rattle.builder.proofs.store.list_ruling.Goals as goal

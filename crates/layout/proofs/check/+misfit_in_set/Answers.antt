@@ -1,4 +1,4 @@
-use Rattle.std.proofs.Common.{◌≡◌, map, Some, None, sym, refl, ap, ◌∙◌, arith}
+use Rattle.std.proofs.Common.{map, Some, None, sym, refl, ap, ◌∙◌, arith}
 use Rattle.std.proofs.lemmas.List.{get_or-map}
 use Rattle.layout.specs.Places.{no_view}
 use Rattle.layout.proofs.Windows.{turn_here, turn_on}

@@ -1,4 +1,4 @@
-use Rattle.std.proofs.Common.{◌≡◌, ℕ, ◌-◌, min, map, length, sym, ap, ◌∙◌, arith}
+use Rattle.std.proofs.Common.{◌≡◌, ◌-◌, min, map, length, ap, ◌∙◌, arith}
 use Rattle.layout.specs.Places.{fault_in, first_misfit}
 use Rattle.layout.proofs.Windows.{inside_rows}
 use Rattle.layout.proofs.check.first_misfit.Goals as goal

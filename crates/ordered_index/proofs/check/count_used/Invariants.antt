@@ -1,4 +1,4 @@
-use Rattle.std.proofs.Common.{◌≡◌, ◌≤◌, length, take}
+use Rattle.std.proofs.Common.{◌≡◌, ◌≤◌, take}
 use Rattle.ordered_index.specs.Slots.{used}
 use Rattle.ordered_index.proofs.check.count_used.Given as goal
 

@@ -1,8 +1,7 @@
-use Rattle.std.proofs.Common.{◌≡◌, ◌<◌, true, false, map, length, take, sym, refl, ap, ◌∙◌, arith, rules}
+use Rattle.std.proofs.Common.{◌≡◌, ◌<◌, true, false, map, length, sym, refl, arith, rules}
 use Rattle.std.proofs.lemmas.Bool.{cond-true, cond-false, and_from, and_left, and_right, le-leb, lt-leb, lt-ltb, le-ltb}
 use Rattle.ordered_index.specs.Slots.{limit}
 use Rattle.ordered_index.specs.Entering.{enter_room}
-use Rattle.ordered_index.specs.Probing.{probe_for}
 use Rattle.ordered_index.proofs.Enters.{entering, vacant_inside}
 use Rattle.ordered_index.proofs.index.enter.Goals as goal
 use Rattle.ordered_index.proofs.index.enter.Goals.{then-count-entries-via-then-count-entries, then-count-entries-via-else-count-entries+then-count-limit_of}

@@ -1,5 +1,4 @@
-use Rattle.std.proofs.Common.{◌≡◌, ℕ, suc, ◌+◌, ◌-◌, ◌<◌, map, length, get_or, sym, ap, ◌∙◌, subst, mod-lt, arith}
-use Rattle.ordered_index.specs.Slots.{slot_after}
+use Rattle.std.proofs.Common.{◌≡◌, ℕ, ◌+◌, ◌-◌, ◌<◌, map, length, get_or, sym, ap, ◌∙◌, subst, mod-lt, arith}
 use Rattle.ordered_index.specs.Probing.{names, probe}
 use Rattle.ordered_index.proofs.Probes.{probe_vacant, probe_found, probe_next, names_read, names_none}
 use Rattle.ordered_index.proofs.probe.probe.Goals as goal

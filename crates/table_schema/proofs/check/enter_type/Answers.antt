@@ -1,4 +1,4 @@
-use Rattle.std.proofs.Common.{◌≡◌, ℕ, true, false, eqb, List, get_or, take, is_some, Some, None, sym, ap, ◌∙◌, subst, rules}
+use Rattle.std.proofs.Common.{◌≡◌, ℕ, true, false, List, get_or, take, is_some, Some, None, sym, ap, subst, rules}
 use Rattle.std.proofs.lemmas.Bool.{ne_eqb}
 use Rattle.ordered_index.specs.Sound.{Sound}
 use Rattle.ordered_index.specs.Keys.{same_name, name_hash}

@@ -1,8 +1,8 @@
-use Rattle.std.proofs.Common.{◌≡◌, ◌≤◌, true, false, eqb, length, sym, refl, ap, ◌∙◌, arith}
+use Rattle.std.proofs.Common.{◌≡◌, true, false, length, sym, refl, ap, ◌∙◌}
 use Rattle.std.proofs.lemmas.Bool.{cond-true, cond-false, or_from, and_from, and_parts, le-ltb, eqb-true}
 use Rattle.ordered_index.specs.Keys.{same_name, name_hash, same_field, field_hash}
 use Rattle.refusal.specs.Firsts.{verdict_of}
-use Rattle.table_schema.specs.Verdict.{over_limit, empty_index, zeros, index_fault}
+use Rattle.table_schema.specs.Verdict.{over_limit, empty_index, zeros}
 use Rattle.table_schema.proofs.Steps.{fresh, emptied}
 use Rattle.table_schema.proofs.check.index_rows.Goals as goal
 

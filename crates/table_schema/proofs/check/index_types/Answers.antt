@@ -1,4 +1,4 @@
-use Rattle.std.proofs.Common.{◌≡◌, ℕ, ◌+◌, ◌-◌, ◌<◌, List, map, length, sym, refl, ap, ◌∙◌, subst, arith}
+use Rattle.std.proofs.Common.{ℕ, ◌+◌, ◌-◌, List, length, sym, ap, ◌∙◌, subst, arith}
 use Rattle.ordered_index.specs.Sound.{Sound}
 use Rattle.ordered_index.specs.Keys.{same_name, name_hash}
 use Rattle.ordered_index.proofs.Firsts.{keys_all}

@@ -1,9 +1,8 @@
-use Rattle.std.proofs.Common.{◌≡◌, ℕ, ◌<◌, List, length, Some, None, sym, ap, ◌∙◌, subst, rules}
-use Rattle.ordered_index.specs.Sound.{Sound}
+use Rattle.std.proofs.Common.{length, Some, None, ap, ◌∙◌, rules}
 use Rattle.ordered_index.specs.Keys.{same_name, name_hash}
-use Rattle.ordered_index.proofs.Firsts.{place_in, keys_all, located_inside}
+use Rattle.ordered_index.proofs.Firsts.{place_in, located_inside}
 use Rattle.table_schema.specs.Keys.{type_key}
-use Rattle.table_schema.specs.Meaning.{kind_there, no_type}
+use Rattle.table_schema.specs.Meaning.{kind_there}
 use Rattle.table_schema.specs.Verdict.{owns_fields}
 use Rattle.table_schema.proofs.Steps.{whole}
 use Rattle.table_schema.proofs.check.is_owner.Goals as goal

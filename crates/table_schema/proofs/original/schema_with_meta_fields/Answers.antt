@@ -1,8 +1,8 @@
-use Rattle.std.proofs.Common.{◌≡◌, ap, ◌∙◌}
+use Rattle.std.proofs.Common.{ap, ◌∙◌}
 use Rattle.schema.specs.declared.answers.OperationType.TheVariants.{Query}
 use Rattle.schema.specs.Meta.{over, meta_field, is_name}
 use Rattle.table_schema.specs.Meaning.{kind_of, field_of}
-use Rattle.table_schema.specs.Table.{table_root, table_kind, table_field}
+use Rattle.table_schema.specs.Table.{table_root, table_kind}
 use Rattle.table_schema.proofs.original.schema_with_meta_fields.Goals as goal
 
 pub returns-in-Ok : goal.returns-in-Ok

@@ -1,7 +1,6 @@
 -- The keys in use are written over the table, from their place on.
-use Rattle.std.proofs.Common.{◌≡◌, ℕ, ◌+◌, ◌-◌, ◌≤◌, List, length, take, sym, refl, ap, ◌∙◌, arith, rules}
+use Rattle.std.proofs.Common.{◌≡◌, ℕ, ◌+◌, ◌-◌, length, take, sym, ap, ◌∙◌, arith, rules}
 use Rattle.std.proofs.lemmas.List.{length-take-le}
-use Rattle.selection_rules.specs.declared.error.SelectionPath.{SelectionPath}
 use Rattle.builder.specs.Filling.{put}
 use Rattle.builder.proofs.Puts.{put_mid-put}
 use Rattle.builder.proofs.path.OpenPath.write.Goals as goal

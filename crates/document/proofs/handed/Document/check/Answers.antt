@@ -1,4 +1,4 @@
-use Rattle.std.proofs.Common.{◌≡◌, ℕ, Some, None, sym, refl, ap, ◌∙◌, arith}
+use Rattle.std.proofs.Common.{◌≡◌, ℕ, Some, None, sym, ap, ◌∙◌, arith}
 use Rattle.document.specs.Verdict.{document_fault}
 use Rattle.refusal.specs.Firsts.{verdict_of}
 use Rattle.document.proofs.Documents.{is_document, without_fault, only_one}

@@ -1,10 +1,10 @@
-use Rattle.std.proofs.Common.{◌≡◌, ℕ, ◌+◌, ◌*◌, List, length, Some, None, count_by, Option, sym, refl, ap, ◌∙◌, arith}
+use Rattle.std.proofs.Common.{◌≡◌, ℕ, length, Some, None, count_by, Option, refl, ap, ◌∙◌, arith}
 use Rattle.document.specs.declared.handed.needs.Needs.{Needs}
 use Rattle.document.specs.declared.fault.DocumentFault.{DocumentFault}
 use Rattle.document.specs.Rows.{head_of, is_fragment, named_operation}
 use Rattle.document.specs.Verdict.{told_fault, document_fault}
 use Rattle.refusal.specs.Firsts.{verdict_of}
-use Rattle.document.specs.Needs.{keys_in, rows_in, needs_of}
+use Rattle.document.specs.Needs.{rows_in}
 use Rattle.document.proofs.Keys.{count_heads, all_rows, as_many}
 use Rattle.document.proofs.handed.Document.needs.Goals as goal
 

@@ -1,7 +1,4 @@
-use Rattle.std.proofs.Common.{◌≡◌, ℕ, ◌+◌, ◌≤◌, sym, refl, ap, ◌∙◌, arith}
-use Rattle.layout.specs.Forest.{Forest, none, depth}
-use Rattle.document.specs.Rows.{Selection}
-use Rattle.document.specs.Sets.{Holds}
+use Rattle.std.proofs.Common.{◌≡◌, refl, ap, ◌∙◌, arith}
 use Rattle.document.specs.Needs.{path_keys}
 use Rattle.document.proofs.Keys.{same_set, turned, ended, set_keys}
 use Rattle.document.proofs.handed.needs.+path_keys_in_set.Goals as goal

@@ -1,4 +1,4 @@
-use Rattle.std.proofs.Common.{◌≡◌, ℕ, ◌+◌, ◌-◌, ◌≤◌}
+use Rattle.std.proofs.Common.{◌≡◌, ◌+◌, ◌-◌, ◌≤◌}
 use Rattle.layout.specs.Forest.{Forest, depth}
 use Rattle.document.specs.Rows.{Selection}
 use Rattle.document.specs.Sets.{Holds}

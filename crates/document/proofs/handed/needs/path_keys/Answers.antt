@@ -1,7 +1,7 @@
-use Rattle.std.proofs.Common.{◌≡◌, ℕ, ◌+◌, ◌<◌, ◌≤◌, List, length, get_or, drop, sym, refl, ap, ◌∙◌, subst, arith}
+use Rattle.std.proofs.Common.{◌≡◌, ◌<◌, length, get_or, drop, arith}
 use Rattle.std.proofs.lemmas.List.{at_drop_all}
-use Rattle.document.specs.Document.{Definition, no_definition, IsDocument}
-use Rattle.document.specs.Needs.{path_keys, keys_in}
+use Rattle.document.specs.Document.{no_definition}
+use Rattle.document.specs.Needs.{keys_in}
 use Rattle.document.proofs.Keys.{keys_more, document_shallow, document_keys, as_many}
 use Rattle.document.proofs.handed.needs.path_keys.Goals as goal
 

@@ -1,4 +1,4 @@
-use Rattle.std.proofs.Common.{◌≡◌, ℕ, List, map, length, Some, Ok, Err, Result, vec_items, sym, refl, ap, ◌∙◌, subst, arith}
+use Rattle.std.proofs.Common.{◌≡◌, ℕ, List, map, Some, Ok, Err, Result, vec_items, sym, refl, ap, ◌∙◌, subst}
 use Rattle.std.specs.Result.{IsErrAnd}
 use Rattle.std.proofs.lemmas.List.{with_items_is}
 use Rattle.std.proofs.lemmas.Bool.{cond-false}
@@ -14,7 +14,7 @@ use Rattle.table_schema.specs.declared.fault.MakeFault.{MakeFault}
 use Rattle.table_schema.specs.declared.fault.MakeFault.TheVariants.{Rows}
 use Rattle.table_schema.specs.declared.table.TableSchema.{TableSchema}
 use Rattle.table_schema.specs.Table.{Makes, schema_fault}
-use Rattle.table_schema.specs.Keys.{type_key, row_key, entry_key}
+use Rattle.table_schema.specs.Keys.{type_key, entry_key}
 use Rattle.table_schema.specs.Meaning.{known_type, kind_of}
 use Rattle.table_schema.specs.Kept.{entries_from, kept_field, OwnersKnown}
 use Rattle.table_schema.proofs.Founds.{finds_all}
