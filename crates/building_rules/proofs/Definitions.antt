@@ -1,7 +1,7 @@
 -- Definitions list no error exactly when each stands by itself, and each name is new.
 use Rattle.std.proofs.Common.{◌≡◌, ℕ, Bool, true, false, cond, List, [], ◌∷◌, Some, None, Option, refl}
 use Rattle.std.proofs.lemmas.Bool.{cond-false, false≢true}
-use Rattle.std.specs.List.{AllByRecursion as All}
+use Rattle.std.specs.List.{AllByRecursion}
 use Rattle.schema.specs.Meaning.{Meaning}
 use Rattle.selection_rules.specs.Errors.{Error}
 use Rattle.selection_rules.specs.Sets.{errors}
@@ -101,7 +101,7 @@ module _ (m : Meaning) (d : Accepted) where
 
 -- all that a run without errors shows
 pub record Runs (m : Meaning) (s : State) (ds : List Accepted) : Type 0 where
-  pub local : All (λ d. Local m d (role_of d.head)) ds
+  pub local : AllByRecursion (λ d. Local m d (role_of d.head)) ds
   pub operation : New is_named s.operations ds
   pub fragment : New is_fragment s.fragments ds
   pub lone : Lone s.anonymous s.operations ds

@@ -2,7 +2,7 @@
 use Rattle.std.proofs.Common.{◌≡◌, ℕ, Bool, true, false, ◌≢◌, ◌⊎◌, List, [], ◌∷◌, Some, Ok, refl, ap, subst, inl, inr, ⊎_elim}
 use Rattle.std.proofs.lemmas.Bool.{both_ways, false≢true}
 use Rattle.std.proofs.ByRecursion.{All-weaker}
-use Rattle.std.specs.List.{AllByRecursion as All}
+use Rattle.std.specs.List.{AllByRecursion}
 use Rattle.layout.specs.Forest.{Forest, none}
 use Rattle.document.specs.Rows.{Selection}
 use Rattle.schema.specs.declared.answers.FieldDefinition.{FieldDefinition}
@@ -100,7 +100,7 @@ module _ (m : Meaning) (d : Accepted) where
     local fragment e = let f : is_fragment d ≡ true = ap fragment_role e in (s.condition f, clean d.head.condition (inr f) (of_fragment f))
     local type_system e = system d.strict refl e
 
-gather : (m : Meaning) (ds : List Accepted) → ExecutableDefinitions ds → FieldSelections m ds → LeafFieldSelections m ds → FragmentTypeExistence m ds → RootOperationType m ds → All (λ d. Local m d (role_of d.head)) ds
+gather : (m : Meaning) (ds : List Accepted) → ExecutableDefinitions ds → FieldSelections m ds → LeafFieldSelections m ds → FragmentTypeExistence m ds → RootOperationType m ds → AllByRecursion (λ d. Local m d (role_of d.head)) ds
 gather m [] a b c e f = tt
 gather m (d ∷ ds) a b c e f = (
   local m d (record { executable = a.0; fields = b.0; leaves = c.0; condition = e.0.0; conditions = e.0.1; root = f.0 }) (role_of d.head) refl,
@@ -111,7 +111,7 @@ pub no_errors_exactly_when_valid : NoErrorsExactlyWhenValid
 no_errors_exactly_when_valid m law closed ds = (
   λ e.
       let r = runs m fresh ds e in
-      let all : All (Sound m) ds = All-weaker (λ d. Local m d (role_of d.head)) (Sound m) (λ d. sound m d law closed) ds r.local in
+      let all : AllByRecursion (Sound m) ds = All-weaker (λ d. Local m d (role_of d.head)) (Sound m) (λ d. sound m d law closed) ds r.local in
       record {
         executable_definitions = All-weaker (Sound m) _ (λ d s. s.executable) ds all;
         operation_name_uniqueness = new_alone is_named ds r.operation;

@@ -1,7 +1,7 @@
 -- Names that are taken one by one are each new exactly when each stands once, and the same of an anonymous operation.
 use Rattle.std.proofs.Common.{◌≡◌, ℕ, suc, ◌+◌, ◌<◌, ◌≤◌, Bool, true, false, cond, ◌&&◌, eqb, List, [], ◌∷◌, length, Some, None, filter, Option, refl, ap, ⊎_elim, arith}
 use Rattle.std.proofs.lemmas.Bool.{eqb-true, eq-eqb, cases_lt}
-use Rattle.std.specs.List.{AllByRecursion as All}
+use Rattle.std.specs.List.{AllByRecursion}
 use Rattle.building_rules.specs.Definitions.{Accepted, Role, anonymous_operation, named_operation, fragment, type_system, role_of, Taken, taken, taken_at}
 use Rattle.building_rules.specs.Rules.{operation_role, anonymous_role, named_role, is_anonymous, is_named, operations, anonymous_operations}
 
@@ -75,7 +75,7 @@ new p seen (d ∷ ds) h =
 
 -- each definition of ds that passes p is the only one of its name in `all`
 abbrev pub Alone : (Accepted → Bool) → List Accepted → List Accepted → Type 0
-Alone p all ds = All (λ d. p d ≡ true → length (named_by p d.head.name all) ≡ 1) ds
+Alone p all ds = AllByRecursion (λ d. p d ≡ true → length (named_by p d.head.name all) ≡ 1) ds
 
 longer : (b : Bool) (d : Accepted) (xs : List Accepted) → length xs ≤ length (cond b (d ∷ xs) xs)
 longer true d xs = omega arith

@@ -1,6 +1,6 @@
 -- Eight rules of the GraphQL specification of October 2021, over the definitions of the accepted documents.
 use Rattle.std.specs.Prelude.{◌≡◌, ℕ, ◌<◌, Bool, true, false, ◌&&◌, ◌||◌, ◌≢◌, ◌⊎◌, List, [], length, Some, Ok, filter, Option, ◌==◌}
-use Rattle.std.specs.List.{AllByRecursion as All}
+use Rattle.std.specs.List.{AllByRecursion}
 use Rattle.layout.specs.Forest.{Forest, none, row}
 use Rattle.document.specs.Rows.{Selection}
 use Rattle.schema.specs.declared.answers.TypeKind.{TypeKind}
@@ -122,12 +122,12 @@ Leaf k = (k ≡ Some Scalar) ⊎ (k ≡ Some Enum)
 -- Section 5.1.1, executable definitions: for each definition of a document that must be executable, which is one handed
 -- in strict, it must be an operation or a fragment.
 abbrev pub ExecutableDefinitions : List Accepted → Type 0
-ExecutableDefinitions ds = All (λ d. d.strict ≡ true → Operation d ⊎ Fragment d) ds
+ExecutableDefinitions ds = AllByRecursion (λ d. d.strict ≡ true → Operation d ⊎ Fragment d) ds
 
 -- Section 5.2.1.1, operation name uniqueness: for each operation, if its name exists, all operations of that name must be
 -- a set of one.
 abbrev pub OperationNameUniqueness : List Accepted → Type 0
-OperationNameUniqueness ds = All (λ d. Named d → length (operations_named d.head.name ds) ≡ 1) ds
+OperationNameUniqueness ds = AllByRecursion (λ d. Named d → length (operations_named d.head.name ds) ≡ 1) ds
 
 -- Section 5.2.2.1, lone anonymous operation: if all operations are a set of more than 1, the anonymous ones must be empty.
 abbrev pub LoneAnonymousOperation : List Accepted → Type 0
@@ -136,13 +136,13 @@ LoneAnonymousOperation ds = 1 < length (operations ds) → anonymous_operations 
 -- Section 5.3.1, field selections: for each field that is selected, its name must be defined on the type in scope.
 abbrev pub FieldSelections : Meaning → List Accepted → Type 0
 FieldSelections m ds =
-    All (λ d. (t : ℕ) (s : Selection) (below : Forest Selection) → Selected m d t s below → form_of s ≡ field → Defined m t s.name) ds
+    AllByRecursion (λ d. (t : ℕ) (s : Selection) (below : Forest Selection) → Selected m d t s below → form_of s ≡ field → Defined m t s.name) ds
 
 -- Section 5.3.3, leaf field selections: for each field that is selected, if its type is a scalar or an enum, its
 -- subselections must be empty.
 abbrev pub LeafFieldSelections : Meaning → List Accepted → Type 0
 LeafFieldSelections m ds =
-    All
+    AllByRecursion
     (λ d.
     (t : ℕ) (s : Selection) (below : Forest Selection) → Selected m d t s below → form_of s ≡ field
     → (x : FieldDefinition) → m.field t s.name ≡ Ok x → Leaf (m.sort x.inner) → below ≡ none)
@@ -150,13 +150,13 @@ LeafFieldSelections m ds =
 
 -- Section 5.5.1.1, fragment name uniqueness: for each fragment, all fragments of its name must be a set of one.
 abbrev pub FragmentNameUniqueness : List Accepted → Type 0
-FragmentNameUniqueness ds = All (λ d. Fragment d → length (fragments_named d.head.name ds) ≡ 1) ds
+FragmentNameUniqueness ds = AllByRecursion (λ d. Fragment d → length (fragments_named d.head.name ds) ≡ 1) ds
 
 -- Section 5.5.1.2, fragment spread type existence: the type that a fragment, or an inline fragment, is on must be defined
 -- in the schema.
 abbrev pub FragmentTypeExistence : Meaning → List Accepted → Type 0
 FragmentTypeExistence m ds =
-    All
+    AllByRecursion
     (λ d.
     (Fragment d → m.known d.head.condition ≡ true)
     × (Operation d ⊎ Fragment d → (s : Selection) → Within d.selected s → form_of s ≡ inline → s.condition ≢ 0 → m.known s.condition ≡ true))
@@ -164,7 +164,7 @@ FragmentTypeExistence m ds =
 
 -- Section 3.3.1, root operation types: for each operation, the schema must have a root type for its operation type.
 abbrev pub RootOperationType : Meaning → List Accepted → Type 0
-RootOperationType m ds = All (λ d. Operation d → (t : ℕ) × (m.root (operation_of d.head) ≡ Some t)) ds
+RootOperationType m ds = AllByRecursion (λ d. Operation d → (t : ℕ) × (m.root (operation_of d.head) ≡ Some t)) ds
 
 -- the definitions keep all eight
 pub record Valid (m : Meaning) (ds : List Accepted) : Type 0 where
