@@ -6,4 +6,3 @@ pub mod Adds
 pub mod Powers
 pub mod Enters
 pub mod Firsts
-pub mod Laws

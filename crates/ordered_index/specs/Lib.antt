@@ -4,4 +4,5 @@ pub mod Sound
 pub mod Probing
 pub mod Entering
 pub mod Keys
+pub mod Laws
 pub mod Firsts

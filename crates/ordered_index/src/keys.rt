@@ -1,6 +1,6 @@
 // The two types of keys: a name, which is its number, and a field of a type by both names.
 ghost use Rattle.ordered_index.specs.Keys.{same_name, name_hash, same_field, field_hash};
-ghost use Rattle.std.proofs.Common.{rules};
+ghost use Rattle.ordered_index.specs.Laws.{name_lawful, field_lawful};
 
 use crate::key::{Entry, Key};
 
@@ -11,7 +11,7 @@ impl Key for u32 {
 
     ghost digest = { name_hash };
 
-    ghost lawful = { Prim.search rules };
+    ghost lawful = { name_lawful };
 
     fn equals(&self, other: &u32) -> bool {
         *self == *other
@@ -34,7 +34,7 @@ impl Key for TypeField {
 
     ghost digest = { field_hash };
 
-    ghost lawful = { Prim.search rules };
+    ghost lawful = { field_lawful };
 
     fn equals(&self, other: &TypeField) -> bool {
         self.owner == other.owner && self.field == other.field

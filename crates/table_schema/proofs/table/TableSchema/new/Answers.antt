@@ -5,7 +5,7 @@ use Rattle.std.proofs.lemmas.Bool.{cond-false}
 use Rattle.ordered_index.specs.declared.keys.TypeField.{TypeField}
 use Rattle.ordered_index.specs.Keys.{same_name, name_hash, same_field, field_hash}
 use Rattle.ordered_index.specs.Sound.{Sound}
-use Rattle.ordered_index.proofs.Laws.{name_lawful, field_lawful}
+use Rattle.ordered_index.specs.Laws.{name_lawful, field_lawful}
 use Rattle.table_schema.specs.declared.rows.TypeRow.{TypeRow}
 use Rattle.table_schema.specs.declared.rows.FieldRow.{FieldRow}
 use Rattle.table_schema.specs.declared.rows.FieldEntry.{FieldEntry}
