@@ -1,8 +1,11 @@
-// What a refused call tells: the reason, the layer at fault, and the faulty row.
+// What a refused call tells: the reason, the layer at fault, and the faulty row; and a number that stands for no case.
 #![tactic(auto)]
 
 ghost use Rattle.std.specs.Prelude.{◌≡◌};
 ghost use Rattle.refusal.specs.Layers.{layer_number, reason_number};
+
+use std::error::Error;
+use std::fmt;
 
 /// The layers of the library, from the bottom up.
 #[derive(Clone, Copy, PartialEq, Eq, Debug)]
@@ -75,3 +78,16 @@ pub struct Refusal {
     pub layer: Layer,
     pub row: u32,
 }
+
+/// A number that stands for no case of an enum.
+#[derive(Clone, Copy, PartialEq, Eq, Debug)]
+pub struct UnknownNumber(pub u32);
+
+impl fmt::Display for UnknownNumber {
+    fn fmt<W: fmt::Write>(&self, f: &mut fmt::Formatter<W>) -> fmt::Result {
+        let UnknownNumber(number) = *self;
+        write!(f, "no case has the number {number}")
+    }
+}
+
+impl Error for UnknownNumber {}

@@ -1,10 +1,9 @@
--- The meaning of a schema as one record: the four answers that it gives; and when a schema is closed. Assumes nothing.
-use Rattle.std.specs.Prelude.{◌≡◌, ℕ, Bool, true, Some, None, Ok, Option, Result}
+-- The meaning of a schema: the four answers that it gives; and when a schema is closed. Assumes nothing.
+use Rattle.std.specs.Prelude.{◌≡◌, ℕ, Bool, true, Some, Ok, Option, Result}
 use Rattle.schema.specs.declared.answers.OperationType.{OperationType}
 use Rattle.schema.specs.declared.answers.TypeKind.{TypeKind}
 use Rattle.schema.specs.declared.answers.FieldDefinition.{FieldDefinition}
 use Rattle.schema.specs.declared.answers.FieldLookupError.{FieldLookupError}
-use Rattle.schema.specs.Open.{open_root, open_field}
 
 pub record Meaning : Type 0 where
   -- the type at which operations of a type start
@@ -16,20 +15,7 @@ pub record Meaning : Type 0 where
   -- the field, by its name, of a type
   pub field : ℕ → ℕ → Result FieldDefinition FieldLookupError
 
--- The record of four answers.
-abbrev pub meaning : (OperationType → Option ℕ) → (ℕ → Bool) → (ℕ → Option TypeKind) → (ℕ → ℕ → Result FieldDefinition FieldLookupError) → Meaning
-meaning root known sort field = record { root = root; known = known; sort = sort; field = field }
-
 -- The schema knows each type that it answers with: each root, and the inner type of each field.
 pub record Closed (m : Meaning) : Type 0 where
   pub roots : (operation : OperationType) (t : ℕ) → m.root operation ≡ Some t → m.known t ≡ true
   pub inners : (t f : ℕ) (x : FieldDefinition) → m.field t f ≡ Ok x → m.known x.inner ≡ true
-
--- Of the open schema every type is known, the kind of none is told, and every field is found in each.
-abbrev pub open_meaning : Meaning
-open_meaning = record {
-  root = λ operation. Some (open_root operation);
-  known = λ _. true;
-  sort = λ _. None;
-  field = λ _ _. Ok open_field;
-}

@@ -1,7 +1,6 @@
 -- The meta-fields of the GraphQL specification of October 2021: section 4.1, type name introspection (`__typename`, in every
 -- object, interface and union), and section 4.2, schema introspection (`__schema` and `__type`, at the query root). Assumes nothing.
 use Rattle.std.specs.Prelude.{◌≡◌, ℕ, Bool, true, false, cond, List, [], ◌∷◌, Some, None, Ok, Err, Option, Result, ◌==◌, ◌≢◌}
-use Rattle.schema.specs.declared.answers.OperationType.{OperationType}
 use Rattle.schema.specs.declared.answers.OperationType.TheVariants.{Query}
 use Rattle.schema.specs.declared.answers.TypeKind.{TypeKind}
 use Rattle.schema.specs.declared.answers.FieldDefinition.{FieldDefinition}
@@ -11,6 +10,7 @@ use Rattle.schema.specs.declared.meta.Stands.{Stands}
 use Rattle.schema.specs.declared.meta.Stands.TheVariants.{InComposite, InQueryRoot}
 use Rattle.schema.specs.declared.meta.MetaField.{MetaField}
 use Rattle.schema.specs.Numbers.{composite}
+use Rattle.schema.specs.Meaning.{Meaning}
 
 -- The definition of a field: its place and its inner type.
 abbrev pub defined : ℕ → ℕ → FieldDefinition
@@ -59,22 +59,26 @@ over (Ok definition) meta = Ok definition
 over (Err NoSuchType) meta = Err NoSuchType
 over (Err NoSuchField) meta = meta
 
--- What a schema with these meanings answers for a field once the meta-fields are added to it.
-abbrev pub with_meta_fields : (OperationType → Option ℕ) → (ℕ → Option TypeKind) → (ℕ → ℕ → Result FieldDefinition FieldLookupError) → ℕ → ℕ → Result FieldDefinition FieldLookupError
-with_meta_fields root sort field t f = over (field t f) (meta_field (sort t) (is_name (root Query) t) f)
+-- What a schema with this meaning answers for a field once the meta-fields are added to it.
+abbrev pub with_meta_fields : Meaning → ℕ → ℕ → Result FieldDefinition FieldLookupError
+with_meta_fields m t f = over (m.field t f) (meta_field (m.sort t) (is_name (m.root Query) t) f)
 
--- The meta-fields are added to a schema with these meanings, so that its fields, `field`, become `added`.
-pub record MetaFieldsAdded (root : OperationType → Option ℕ) (sort : ℕ → Option TypeKind) (field added : ℕ → ℕ → Result FieldDefinition FieldLookupError) : Type 0 where
+-- Its meaning once the meta-fields are added to it: only what it answers for fields changes.
+abbrev pub with_meta : Meaning → Meaning
+with_meta m = record { root = m.root; known = m.known; sort = m.sort; field = with_meta_fields m }
+
+-- The meta-fields are added to a schema with this meaning, so that its answers for fields become `added`.
+pub record MetaFieldsAdded (m : Meaning) (added : ℕ → ℕ → Result FieldDefinition FieldLookupError) : Type 0 where
   -- What the schema itself finds, and that a type is unknown, stays.
-  pub own : (t f : ℕ) → (field t f ≢ Err NoSuchField) → added t f ≡ field t f
+  pub own : (t f : ℕ) → (m.field t f ≢ Err NoSuchField) → added t f ≡ m.field t f
   -- Names other than those of the three meta-fields are answered as before.
-  pub other : (t f : ℕ) → (f ≢ 4) → (f ≢ 5) → (f ≢ 6) → added t f ≡ field t f
+  pub other : (t f : ℕ) → (f ≢ 4) → (f ≢ 5) → (f ≢ 6) → added t f ≡ m.field t f
   -- Section 4.1: `__typename`, of type String, is found in every composite type, and in no other.
-  pub typename : (t : ℕ) → field t 4 ≡ Err NoSuchField → composite_kind (sort t) ≡ true → added t 4 ≡ Ok (defined 4097 7)
-  pub typename_only : (t : ℕ) → composite_kind (sort t) ≡ false → added t 4 ≡ field t 4
+  pub typename : (t : ℕ) → m.field t 4 ≡ Err NoSuchField → composite_kind (m.sort t) ≡ true → added t 4 ≡ Ok (defined 4097 7)
+  pub typename_only : (t : ℕ) → composite_kind (m.sort t) ≡ false → added t 4 ≡ m.field t 4
   -- Section 4.2: `__schema`, of type __Schema, and `__type`, of type __Type, are found in the query root ..
-  pub schema : (t : ℕ) → field t 5 ≡ Err NoSuchField → root Query ≡ Some t → added t 5 ≡ Ok (defined 4098 8)
-  pub type : (t : ℕ) → field t 6 ≡ Err NoSuchField → root Query ≡ Some t → added t 6 ≡ Ok (defined 4099 9)
+  pub schema : (t : ℕ) → m.field t 5 ≡ Err NoSuchField → m.root Query ≡ Some t → added t 5 ≡ Ok (defined 4098 8)
+  pub type : (t : ℕ) → m.field t 6 ≡ Err NoSuchField → m.root Query ≡ Some t → added t 6 ≡ Ok (defined 4099 9)
   -- .. and in no other type.
-  pub schema_only : (t : ℕ) → (root Query ≢ Some t) → added t 5 ≡ field t 5
-  pub type_only : (t : ℕ) → (root Query ≢ Some t) → added t 6 ≡ field t 6
+  pub schema_only : (t : ℕ) → (m.root Query ≢ Some t) → added t 5 ≡ m.field t 5
+  pub type_only : (t : ℕ) → (m.root Query ≢ Some t) → added t 6 ≡ m.field t 6

@@ -1,8 +1,10 @@
 // What a schema answers with, and the numbers that stand for the cases in stored rows.
 ghost use Rattle.std.specs.Prelude.{◌≡◌};
+ghost use Rattle.refusal.specs.Numbered.{case_or_unknown};
 ghost use Rattle.schema.specs.Numbers.{operation_number, operation_of_number, kind_number, kind_of_number, composite};
 
 use crate::names::Name;
+use refusal::UnknownNumber;
 
 /// The three types of an operation.
 #[derive(Clone, Copy, PartialEq, Eq, Debug)]
@@ -19,16 +21,20 @@ impl OperationType {
     {
         self as u32
     }
+}
+
+impl TryFrom<u32> for OperationType {
+    type Error = UnknownNumber;
+
+    ghost try_from_gives = { λ number r. r ≡ case_or_unknown number (operation_of_number number) };
 
     /// The operation type that has the number, if any has.
-    pub fn from_number(number: u32) -> Option<OperationType>
-        ensures { result ≡ operation_of_number number }
-    {
+    fn try_from(number: u32) -> Result<OperationType, UnknownNumber> {
         match number {
-            0 => Some(OperationType::Query),
-            1 => Some(OperationType::Mutation),
-            2 => Some(OperationType::Subscription),
-            _ => None,
+            0 => Ok(OperationType::Query),
+            1 => Ok(OperationType::Mutation),
+            2 => Ok(OperationType::Subscription),
+            _ => Err(UnknownNumber(number)),
         }
     }
 }
@@ -52,21 +58,6 @@ impl TypeKind {
         self as u32
     }
 
-    /// The kind that has the number, if any has.
-    pub fn from_number(number: u32) -> Option<TypeKind>
-        ensures { result ≡ kind_of_number number }
-    {
-        match number {
-            1 => Some(TypeKind::Scalar),
-            2 => Some(TypeKind::Object),
-            3 => Some(TypeKind::Interface),
-            4 => Some(TypeKind::Union),
-            5 => Some(TypeKind::Enum),
-            6 => Some(TypeKind::InputObject),
-            _ => None,
-        }
-    }
-
     /// Whether a selection set can stand on a type of this kind.
     pub fn is_composite(self) -> bool
         ensures { result ≡ composite self }
@@ -75,6 +66,25 @@ impl TypeKind {
             self,
             TypeKind::Object | TypeKind::Interface | TypeKind::Union
         )
+    }
+}
+
+impl TryFrom<u32> for TypeKind {
+    type Error = UnknownNumber;
+
+    ghost try_from_gives = { λ number r. r ≡ case_or_unknown number (kind_of_number number) };
+
+    /// The kind that has the number, if any has.
+    fn try_from(number: u32) -> Result<TypeKind, UnknownNumber> {
+        match number {
+            1 => Ok(TypeKind::Scalar),
+            2 => Ok(TypeKind::Object),
+            3 => Ok(TypeKind::Interface),
+            4 => Ok(TypeKind::Union),
+            5 => Ok(TypeKind::Enum),
+            6 => Ok(TypeKind::InputObject),
+            _ => Err(UnknownNumber(number)),
+        }
     }
 }
 

@@ -1,4 +1,4 @@
-// A schema that is borrowed: it answers as the one that it points to. It lets one schema serve several owners,
+// A schema that is borrowed: a reference answers as the schema that it points to. So one schema serves several owners,
 // as a meta layer over a schema that stays where it is.
 ghost use Rattle.std.specs.Prelude.{◌≡◌};
 ghost use Rattle.schema.specs.Meta.{with_meta_fields};
@@ -7,44 +7,22 @@ use crate::answers::{FieldDefinition, FieldLookupError, OperationType, TypeKind}
 use crate::interface::Schema;
 use crate::meta::MetaLayer;
 use crate::names::Name;
-use std::alloc::AllocError;
 
-/// A borrowed schema.
-pub struct SchemaRef<'a, S> {
-    pub schema: &'a S,
-}
+impl<S: Schema> Schema for &S {
+    ghost meaning = { λ s. S.Schema.meaning s.now };
 
-impl<'a, S> Copy for SchemaRef<'a, S> {}
-
-impl<'a, S> Clone for SchemaRef<'a, S> {
-    ghost is_clone = { λ s t. t.schema.now ≡ s.schema.now };
-
-    ghost is_infallible = { λ _. Unit {0} };
-
-    fn clone(&self) -> Result<SchemaRef<'a, S>, AllocError> {
-        Ok(*self)
-    }
-}
-
-impl<'a, S: Schema> Schema for SchemaRef<'a, S> {
-    ghost root = { λ s. S.Schema.root s.schema.now };
-
-    ghost known = { λ s. S.Schema.known s.schema.now };
-
-    ghost sort = { λ s. S.Schema.sort s.schema.now };
-
-    ghost field = { λ s. S.Schema.field s.schema.now };
+    ghost lawful = { λ s. S.Schema.lawful s.now };
 
     fn root_operation(&self, operation_type: OperationType) -> Option<Name> {
-        self.schema.root_operation(operation_type)
+        (**self).root_operation(operation_type)
     }
 
     fn knows(&self, type_name: Name) -> bool {
-        self.schema.knows(type_name)
+        (**self).knows(type_name)
     }
 
     fn kind(&self, type_name: Name) -> Option<TypeKind> {
-        self.schema.kind(type_name)
+        (**self).kind(type_name)
     }
 
     fn type_field(
@@ -52,11 +30,7 @@ impl<'a, S: Schema> Schema for SchemaRef<'a, S> {
         type_name: Name,
         field_name: Name,
     ) -> Result<FieldDefinition, FieldLookupError> {
-        self.schema.type_field(type_name, field_name)
-    }
-
-    fn keeps_the_law(&self) {
-        self.schema.keeps_the_law();
+        (**self).type_field(type_name, field_name)
     }
 }
 
@@ -66,10 +40,7 @@ pub fn field_or_meta_field<S: Schema>(
     type_name: Name,
     field_name: Name,
 ) -> Result<FieldDefinition, FieldLookupError>
-    ensures { result ≡ with_meta_fields (S.Schema.root schema.now) (S.Schema.sort schema.now) (S.Schema.field schema.now) type_name field_name }
+    ensures { result ≡ with_meta_fields (S.Schema.meaning schema.now) type_name field_name }
 {
-    let layer = MetaLayer {
-        lower: SchemaRef { schema },
-    };
-    layer.type_field(type_name, field_name)
+    MetaLayer { lower: schema }.type_field(type_name, field_name)
 }

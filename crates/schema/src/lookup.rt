@@ -30,7 +30,7 @@ pub enum Answer {
 
 /// What the schema answers to the question.
 pub fn ask<S: Schema>(schema: &S, question: Question) -> Answer
-    ensures { result ≡ answer_to (S.Schema.root schema.now) (S.Schema.known schema.now) (S.Schema.sort schema.now) (S.Schema.field schema.now) question }
+    ensures { result ≡ answer_to (S.Schema.meaning schema.now) question }
 {
     match question {
         Question::Root(operation_type) => Answer::Root(schema.root_operation(operation_type)),
@@ -44,9 +44,8 @@ pub fn ask<S: Schema>(schema: &S, question: Question) -> Answer
 
 /// Whether the type is known, told from the answer for one field, whichever it is.
 pub fn knows_by_field<S: Schema>(schema: &S, type_name: Name, field_name: Name) -> bool
-    ensures { result ≡ S.Schema.known schema.now type_name }
+    ensures { result ≡ (S.Schema.meaning schema.now).known type_name }
 {
-    schema.keeps_the_law();
     match schema.type_field(type_name, field_name) {
         Err(FieldLookupError::NoSuchType) => false,
         _ => true,

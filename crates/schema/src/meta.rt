@@ -1,8 +1,9 @@
 // The meta-fields over any schema. The schema beneath is asked first; only where it knows the type and does not have the
 // field, `__typename` is found in every composite type, and `__schema` and `__type` in the query root.
-ghost use Rattle.std.specs.Prelude.{◌≡◌, Some, None};
+ghost use Rattle.std.specs.Prelude.{◌≡◌};
 ghost use Rattle.schema.specs.declared.answers.OperationType.TheVariants.{Query};
-ghost use Rattle.schema.specs.Meta.{meta_fields, row_of, may_stand, is_name, meta_field, with_meta_fields, MetaFieldsAdded};
+ghost use Rattle.schema.specs.Meta.{meta_fields, row_of, may_stand, is_name, meta_field, with_meta, MetaFieldsAdded};
+ghost use Rattle.schema.specs.Laws.{meta_lawful};
 
 use crate::answers::{FieldDefinition, FieldLookupError, OperationType, TypeKind};
 use crate::interface::Schema;
@@ -58,27 +59,16 @@ const META_FIELDS: [MetaField; 3] = [
 fn meta_row(name: Name) -> Option<MetaField>
     ensures { result ≡ row_of name meta_fields }
 {
-    for row in META_FIELDS.iter() {
-        if row.name == name {
-            return Some(*row);
-        }
-    }
-    None
+    META_FIELDS.iter().find(|row| row.name == name).copied()
 }
 
 /// Whether a meta-field that stands so is found in the type.
 fn found_in<S: Schema>(schema: &S, type_name: Name, stands: Stands) -> bool
-    ensures { result ≡ may_stand (S.Schema.sort schema.now type_name) (is_name (S.Schema.root schema.now Query) type_name) stands }
+    ensures { result ≡ may_stand ((S.Schema.meaning schema.now).sort type_name) (is_name ((S.Schema.meaning schema.now).root Query) type_name) stands }
 {
     match stands {
-        Stands::InComposite => match schema.kind(type_name) {
-            Some(kind) => kind.is_composite(),
-            None => false,
-        },
-        Stands::InQueryRoot => match schema.root_operation(OperationType::Query) {
-            Some(root) => root == type_name,
-            None => false,
-        },
+        Stands::InComposite => schema.kind(type_name).is_some_and(TypeKind::is_composite),
+        Stands::InQueryRoot => schema.root_operation(OperationType::Query) == Some(type_name),
     }
 }
 
@@ -88,7 +78,7 @@ fn meta_field<S: Schema>(
     type_name: Name,
     field_name: Name,
 ) -> Result<FieldDefinition, FieldLookupError>
-    ensures { result ≡ meta_field (S.Schema.sort schema.now type_name) (is_name (S.Schema.root schema.now Query) type_name) field_name }
+    ensures { result ≡ meta_field ((S.Schema.meaning schema.now).sort type_name) (is_name ((S.Schema.meaning schema.now).root Query) type_name) field_name }
 {
     match meta_row(field_name) {
         Some(row) if found_in(schema, type_name, row.stands) => Ok(row.definition),
@@ -103,13 +93,9 @@ pub struct MetaLayer<S> {
 }
 
 impl<S: Schema> Schema for MetaLayer<S> {
-    ghost root = { λ s. S.Schema.root s.lower };
+    ghost meaning = { λ s. with_meta (S.Schema.meaning s.lower) };
 
-    ghost known = { λ s. S.Schema.known s.lower };
-
-    ghost sort = { λ s. S.Schema.sort s.lower };
-
-    ghost field = { λ s. with_meta_fields (S.Schema.root s.lower) (S.Schema.sort s.lower) (S.Schema.field s.lower) };
+    ghost lawful = { λ s. meta_lawful (S.Schema.meaning s.lower) (S.Schema.lawful s.lower) };
 
     fn root_operation(&self, operation_type: OperationType) -> Option<Name> {
         self.lower.root_operation(operation_type)
@@ -133,16 +119,12 @@ impl<S: Schema> Schema for MetaLayer<S> {
             answer => answer,
         }
     }
-
-    fn keeps_the_law(&self) {
-        self.lower.keeps_the_law();
-    }
 }
 
 impl<S: Schema> MetaLayer<S> {
     /// Does nothing. Its promise says, as the GraphQL specification does, which fields the layer adds to the schema
     /// beneath, and in which types: the last argument of the promise is the layer's own meaning of a field.
     pub fn adds_the_meta_fields(&self)
-        ensures { MetaFieldsAdded (S.Schema.root self.now.lower) (S.Schema.sort self.now.lower) (S.Schema.field self.now.lower) (with_meta_fields (S.Schema.root self.now.lower) (S.Schema.sort self.now.lower) (S.Schema.field self.now.lower)) }
+        ensures { MetaFieldsAdded (S.Schema.meaning self.now.lower) (with_meta (S.Schema.meaning self.now.lower)).field }
     {}
 }

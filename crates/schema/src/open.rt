@@ -1,7 +1,8 @@
 // The open schema, for documents whose schema is not at hand: it knows every type, tells the kind of none,
 // and finds every field in each, of which it knows neither the definition nor the type.
-ghost use Rattle.std.specs.Prelude.{true, Some, None, Ok};
-ghost use Rattle.schema.specs.Open.{open_root, open_field};
+ghost use Rattle.std.specs.Prelude.{Some};
+ghost use Rattle.schema.specs.Open.{open_meaning};
+ghost use Rattle.schema.specs.Laws.{open_lawful};
 
 use crate::answers::{FieldDefinition, FieldLookupError, OperationType, TypeKind};
 use crate::interface::Schema;
@@ -22,13 +23,9 @@ const ANY_FIELD: FieldDefinition = FieldDefinition {
 pub struct OpenSchema;
 
 impl Schema for OpenSchema {
-    ghost root = { λ _ operation. Some (open_root operation) };
+    ghost meaning = { λ _. open_meaning };
 
-    ghost known = { λ _ _. true };
-
-    ghost sort = { λ _ _. None };
-
-    ghost field = { λ _ _ _. Ok open_field };
+    ghost lawful = { λ _. open_lawful };
 
     fn root_operation(&self, operation_type: OperationType) -> Option<Name> {
         Some(ROOTS[operation_type.number() as usize])
@@ -49,6 +46,4 @@ impl Schema for OpenSchema {
     ) -> Result<FieldDefinition, FieldLookupError> {
         Ok(ANY_FIELD)
     }
-
-    fn keeps_the_law(&self) {}
 }
