@@ -9,58 +9,58 @@ use Rattle.stored_tables.specs.declared.definition.StoredDefinition.{StoredDefin
 use Rattle.builder.specs.Holding.{no_stored_definition, taken_by}
 
 module _ (entries : List StoredDefinition) (count : ℕ) (fits : count ≤ length entries) where
-  keys_long : length (keys_of (λ (d : StoredDefinition). d.name) count entries) ≡ count
-  keys_long = length-map (take count entries) (λ (d : StoredDefinition). d.name) ∙ length-take-le count entries fits
+  keys_long : length (keys_of (λ (d : StoredDefinition). d.row.name) count entries) ≡ count
+  keys_long = length-map (take count entries) (λ (d : StoredDefinition). d.row.name) ∙ length-take-le count entries fits
 
   -- the key at a place is the name of the definition there
-  key_at : (n x : ℕ) → n < count → get_or (keys_of (λ (d : StoredDefinition). d.name) count entries) n x ≡ (get_or entries n no_stored_definition).name
+  key_at : (n x : ℕ) → n < count → get_or (keys_of (λ (d : StoredDefinition). d.row.name) count entries) n x ≡ (get_or entries n no_stored_definition).row.name
   key_at n x low =
       let long = length-take-le count entries fits in
-      get_or-map (λ (d : StoredDefinition). d.name) (take count entries) n no_stored_definition x (omega arith)
-      ∙ ap (λ (d : StoredDefinition). d.name) (get_or-take count entries n no_stored_definition low)
+      get_or-map (λ (d : StoredDefinition). d.row.name) (take count entries) n no_stored_definition x (omega arith)
+      ∙ ap (λ (d : StoredDefinition). d.row.name) (get_or-take count entries n no_stored_definition low)
 
   turn : (a b : ℕ) (t : Bool) → eqb a b ≡ t → eqb b a ≡ t
   turn a b true e = eq-eqb b a (sym (eqb-true a b e))
   turn a b false e = ne_eqb b a (λ f. eqb-false a b e (sym f))
 
   module _ (name : ℕ) where
-    absent_taken : Absent same_name (keys_of (λ (d : StoredDefinition). d.name) count entries) name → (n : ℕ) → n ≤ count → taken_at name (taken_by entries n) ≡ None
+    absent_taken : Absent same_name (keys_of (λ (d : StoredDefinition). d.row.name) count entries) name → (n : ℕ) → n ≤ count → taken_at name (taken_by entries n) ≡ None
     absent_taken absent zero low = refl
     absent_taken absent (suc n) low =
         let long = keys_long in
-        let other : eqb name (get_or entries n no_stored_definition).name ≡ false =
+        let other : eqb name (get_or entries n no_stored_definition).row.name ≡ false =
         turn _ _ false (ap (λ (x : ℕ). eqb x name) (sym (key_at n 0 (omega arith))) ∙ absent n 0 (omega arith))
         in
         cond-false _ _ _ other ∙ absent_taken absent n (omega arith)
 
-    module _ (k : ℕ) (only : Only same_name (keys_of (λ (d : StoredDefinition). d.name) count entries) name k) where
-      here : eqb name (get_or entries k no_stored_definition).name ≡ true
+    module _ (k : ℕ) (only : Only same_name (keys_of (λ (d : StoredDefinition). d.row.name) count entries) name k) where
+      here : eqb name (get_or entries k no_stored_definition).row.name ≡ true
       here =
           let long = keys_long in
           let inside = only.stands.inside in
           turn _ _ true (ap (λ (x : ℕ). eqb x name) (sym (key_at k 0 (omega arith))) ∙ only.stands.equals 0)
 
-      elsewhere : (n : ℕ) → n < count → n ≢ k → eqb name (get_or entries n no_stored_definition).name ≡ false
+      elsewhere : (n : ℕ) → n < count → n ≢ k → eqb name (get_or entries n no_stored_definition).row.name ≡ false
       elsewhere n low other =
           ne_eqb _ _ (λ same.
           let long = keys_long in
-          let found : eqb (get_or (keys_of (λ (d : StoredDefinition). d.name) count entries) n 0) name ≡ true = eq-eqb _ name (key_at n 0 low ∙ sym same) in
+          let found : eqb (get_or (keys_of (λ (d : StoredDefinition). d.row.name) count entries) n 0) name ≡ true = eq-eqb _ name (key_at n 0 low ∙ sym same) in
           other (only.only n 0 (omega arith) found))
 
-      only_taken : (n : ℕ) → k < n → n ≤ count → taken_at name (taken_by entries n) ≡ Some (get_or entries k no_stored_definition).name_location
+      only_taken : (n : ℕ) → k < n → n ≤ count → taken_at name (taken_by entries n) ≡ Some (get_or entries k no_stored_definition).row.name_location
       only_taken zero above low = absurd (omega arith)
       only_taken (suc n) above low =
           ⊎_elim
-          (λ (same : n ≡ k). subst (λ (j : ℕ). cond (eqb name (get_or entries j no_stored_definition).name) (Some (get_or entries j no_stored_definition).name_location) (taken_at name (taken_by entries n)) ≡ Some (get_or entries k no_stored_definition).name_location) (sym same) (cond-true _ _ _ here))
+          (λ (same : n ≡ k). subst (λ (j : ℕ). cond (eqb name (get_or entries j no_stored_definition).row.name) (Some (get_or entries j no_stored_definition).row.name_location) (taken_at name (taken_by entries n)) ≡ Some (get_or entries k no_stored_definition).row.name_location) (sym same) (cond-true _ _ _ here))
           (λ (other : n ≢ k). cond-false _ _ _ (elsewhere n (omega arith) other) ∙ only_taken n (omega arith) (omega arith))
           (cases_eq n k)
 
-  pub inside : (name k : ℕ) → Located same_name (keys_of (λ (d : StoredDefinition). d.name) count entries) name (Some k) → k < count
+  pub inside : (name k : ℕ) → Located same_name (keys_of (λ (d : StoredDefinition). d.row.name) count entries) name (Some k) → k < count
   inside name k only = let long = keys_long in let in-keys = only.stands.inside in omega arith
 
-  pub found : (name k : ℕ) → Located same_name (keys_of (λ (d : StoredDefinition). d.name) count entries) name (Some k)
-      → Some (get_or entries k no_stored_definition).name_location ≡ taken_at name (taken_by entries count)
+  pub found : (name k : ℕ) → Located same_name (keys_of (λ (d : StoredDefinition). d.row.name) count entries) name (Some k)
+      → Some (get_or entries k no_stored_definition).row.name_location ≡ taken_at name (taken_by entries count)
   found name k only = sym (only_taken name k only count (inside name k only) (omega arith))
 
-  pub missing : (name : ℕ) → Located same_name (keys_of (λ (d : StoredDefinition). d.name) count entries) name None → None ≡ taken_at name (taken_by entries count)
+  pub missing : (name : ℕ) → Located same_name (keys_of (λ (d : StoredDefinition). d.row.name) count entries) name None → None ≡ taken_at name (taken_by entries count)
   missing name absent = sym (absent_taken name absent count (omega arith))

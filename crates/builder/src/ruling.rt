@@ -1,6 +1,5 @@
 // What becomes of a definition before its selections are looked at: the errors of its own, and whether it is stored.
 ghost use Rattle.std.specs.Prelude.{◌≡◌, ℕ, ◌≤◌, false, length};
-ghost use Rattle.schema.specs.Meaning.{meaning};
 ghost use Rattle.document.specs.Rows.{head_of, head_broken};
 ghost use Rattle.building_rules.specs.Definitions.{operation_of, taken_at};
 ghost use Rattle.ordered_index.specs.Keys.{same_name, name_hash};
@@ -47,8 +46,8 @@ fn operations_of(progress: &Progress) -> StoredOperations
     match (progress.anonymous, progress.operations) {
         (None, 0) => StoredOperations::Neither,
         (None, _) => StoredOperations::NamedOnly,
-        (Some(anonymous), 0) => StoredOperations::AnonymousOnly(anonymous.location),
-        (Some(anonymous), _) => StoredOperations::Both(anonymous.location),
+        (Some(anonymous), 0) => StoredOperations::AnonymousOnly(anonymous.row.location),
+        (Some(anonymous), _) => StoredOperations::Both(anonymous.row.location),
     }
 }
 
@@ -84,7 +83,7 @@ fn taken_location(
     ensures { result ≡ taken_at name (taken_by entries.now count) }
 {
     match find(entries, count, slots, &name) {
-        Some(place) => Some(entries[place].name_location),
+        Some(place) => Some(entries[place].row.name_location),
         None => None,
     }
 }
@@ -96,7 +95,7 @@ fn rule_root<S: Schema>(
     first: Option<BuildError>,
     multiple_anonymous: bool,
 ) -> Ruling
-    ensures { result ≡ root_ruling first multiple_anonymous (S.Schema.root schema.now (operation_of (head_of row.now))) (head_of row.now) }
+    ensures { result ≡ root_ruling first multiple_anonymous ((S.Schema.meaning schema.now).root (operation_of (head_of row.now))) (head_of row.now) }
 {
     let operation_type = operation_type(row);
     let set_type = schema.root_operation(operation_type);
@@ -126,7 +125,7 @@ fn rule_named<S: Schema>(
 ) -> Ruling
     requires fits { progress.now.operations ≤ length operations.now }
     requires sound { Sound same_name name_hash (names_in (table operations.now slots.now progress.now.operations)) slots.now }
-    ensures { result ≡ named_ruling (meaning (S.Schema.root schema.now) (S.Schema.known schema.now) (S.Schema.sort schema.now) (S.Schema.field schema.now)) first progress.now.multiple_anonymous (taken_at row.now.name (taken_by operations.now progress.now.operations)) (head_of row.now) }
+    ensures { result ≡ named_ruling (S.Schema.meaning schema.now) first progress.now.multiple_anonymous (taken_at row.now.name (taken_by operations.now progress.now.operations)) (head_of row.now) }
 {
     match taken_location(operations, progress.operations, slots, row.name) {
         Some(previous_location) => Ruling {
@@ -172,7 +171,7 @@ fn rule_operation<S: Schema>(
 ) -> Ruling
     requires fits { progress.now.operations ≤ length operations.now }
     requires sound { Sound same_name name_hash (names_in (table operations.now slots.now progress.now.operations)) slots.now }
-    ensures { result ≡ operation_ruling (meaning (S.Schema.root schema.now) (S.Schema.known schema.now) (S.Schema.sort schema.now) (S.Schema.field schema.now)) progress.now.multiple_anonymous (taken_at row.now.name (taken_by operations.now progress.now.operations)) (head_of row.now) (operations_stored (location_of progress.now.anonymous) progress.now.operations) (arriving_as (head_of row.now)) }
+    ensures { result ≡ operation_ruling (S.Schema.meaning schema.now) progress.now.multiple_anonymous (taken_at row.now.name (taken_by operations.now progress.now.operations)) (head_of row.now) (operations_stored (location_of progress.now.anonymous) progress.now.operations) (arriving_as (head_of row.now)) }
 {
     match (operations_of(progress), arrival_of(row)) {
         (StoredOperations::Neither, Arriving::Anonymous) => {
@@ -219,7 +218,7 @@ fn rule_fragment<S: Schema>(
 ) -> Ruling
     requires fits { progress.now.fragments ≤ length fragments.now }
     requires sound { Sound same_name name_hash (names_in (table fragments.now slots.now progress.now.fragments)) slots.now }
-    ensures { result ≡ fragment_ruling progress.now.multiple_anonymous (taken_at row.now.name (taken_by fragments.now progress.now.fragments)) (S.Schema.known schema.now row.now.condition) (head_of row.now) }
+    ensures { result ≡ fragment_ruling progress.now.multiple_anonymous (taken_at row.now.name (taken_by fragments.now progress.now.fragments)) ((S.Schema.meaning schema.now).known row.now.condition) (head_of row.now) }
 {
     let (first, set_type) = match taken_location(fragments, progress.fragments, slots, row.name) {
         Some(previous_location) => (
@@ -264,7 +263,7 @@ pub fn rule<S: Schema>(
     requires fragments_fit { progress.now.fragments ≤ length fragments.now }
     requires fragments_sound { Sound same_name name_hash (names_in (table fragments.now fragment_slots.now progress.now.fragments)) fragment_slots.now }
     requires whole { head_broken (head_of row.now) ≡ false }
-    ensures { Ruled (meaning (S.Schema.root schema.now) (S.Schema.known schema.now) (S.Schema.sort schema.now) (S.Schema.field schema.now)) (state_before progress.now operations.now fragments.now) (head_of row.now) strict result }
+    ensures { Ruled (S.Schema.meaning schema.now) (state_before progress.now operations.now fragments.now) (head_of row.now) strict result }
 {
     match row.kind {
         1 => rule_operation(schema, progress, operations, operation_slots, row),

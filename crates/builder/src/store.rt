@@ -70,7 +70,7 @@ fn enter_definition(
     requires fits { count < length entries.old }
     requires room { count < limit slots.old }
     requires sound { Sound same_name name_hash (names_in (table entries.old slots.old count)) slots.old }
-    requires free { taken_at definition.name (taken_by entries.old count) ≡ None }
+    requires free { taken_at definition.row.name (taken_by entries.old count) ≡ None }
     ensures entered { table entries.new slots.new result ≡ entered (table entries.old slots.old count) definition }
     ensures sound { Sound same_name name_hash (names_in (table entries.new slots.new result)) slots.new }
 {
@@ -89,7 +89,7 @@ fn keep_definition(
     fragments: &mut [StoredDefinition],
     fragment_slots: &mut [u32],
 ) -> Progress
-    requires free { Free (role_of (stored_head definition)) definition.name (table operations.old operation_slots.old progress.operations) (table fragments.old fragment_slots.old progress.fragments) }
+    requires free { Free (role_of (stored_head definition)) definition.row.name (table operations.old operation_slots.old progress.operations) (table fragments.old fragment_slots.old progress.fragments) }
     requires operations { Indexed (table operations.old operation_slots.old progress.operations) }
     requires fragments { Indexed (table fragments.old fragment_slots.old progress.fragments) }
     ensures kept { (rows : List StoredRow) (errors : List BuildError) (keys : List ℕ) → held result operations.new operation_slots.new fragments.new fragment_slots.new rows errors keys ≡ store_as (role_of (stored_head definition)) (held progress operations.old operation_slots.old fragments.old fragment_slots.old rows errors keys) definition }
@@ -97,8 +97,8 @@ fn keep_definition(
     ensures fragments { Indexed (table fragments.new fragment_slots.new result.fragments) }
 {
     let mut next = progress;
-    match definition.kind {
-        1 if definition.name == 0 => next.anonymous = Some(definition),
+    match definition.row.kind {
+        1 if definition.row.name == 0 => next.anonymous = Some(definition),
         1 => {
             next.operations = enter_definition(
                 definition,

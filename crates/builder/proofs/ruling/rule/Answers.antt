@@ -1,7 +1,6 @@
 -- What is ruled of operations and fragments is what the rules say.
 use Rattle.std.proofs.Common.{sym, refl, subst}
 use Rattle.document.specs.Rows.{head_of}
-use Rattle.schema.specs.Meaning.{meaning}
 use Rattle.builder.specs.Holding.{taken_by, location_of, state_before}
 use Rattle.builder.specs.Ruling.{Ruled}
 use Rattle.builder.proofs.Rulings.{operation_ruled, fragment_ruled}
@@ -9,7 +8,7 @@ use Rattle.builder.proofs.ruling.rule.Goals as goal
 
 pub returns-in-1 : goal.returns-in-1
 returns-in-1 g c =
-    let m = meaning (g.S.Schema.root c.args.schema.now) (g.S.Schema.known c.args.schema.now) (g.S.Schema.sort c.args.schema.now) (g.S.Schema.field c.args.schema.now) in
+    let m = g.S.Schema.meaning c.args.schema.now in
     let p = c.args.progress.now in
     let h = head_of c.args.row.now in
     subst (Ruled m (state_before p c.args.operations.now c.args.fragments.now) h c.args.strict) (sym c.rule_operation.ensures)
@@ -17,7 +16,7 @@ returns-in-1 g c =
 
 pub returns-in-2 : goal.returns-in-2
 returns-in-2 g c =
-    let m = meaning (g.S.Schema.root c.args.schema.now) (g.S.Schema.known c.args.schema.now) (g.S.Schema.sort c.args.schema.now) (g.S.Schema.field c.args.schema.now) in
+    let m = g.S.Schema.meaning c.args.schema.now in
     let p = c.args.progress.now in
     let h = head_of c.args.row.now in
     let s = state_before p c.args.operations.now c.args.fragments.now in

@@ -16,7 +16,7 @@ returns-in-1-2 c =
     let role = named_role (stored_head d) c.in-1.is c.if-definition-eq0.false in
     let operations = table c.args.operations.now c.args.operation_slots.now p.operations in
     let fragments = table c.args.fragments.now c.args.fragment_slots.now p.fragments in
-    let free = subst (λ (r : Role). Free r d.name operations fragments) role c.requires.free in
+    let free = subst (λ (r : Role). Free r d.row.name operations fragments) role c.requires.free in
     let e = c.enter_definition.ensures in
     record {
       kept = λ rows errors keys.
@@ -34,7 +34,7 @@ returns-in-2 c =
     let role = fragment_role (stored_head d) c.in-2.is in
     let operations = table c.args.operations.now c.args.operation_slots.now p.operations in
     let fragments = table c.args.fragments.now c.args.fragment_slots.now p.fragments in
-    let free = subst (λ (r : Role). Free r d.name operations fragments) role c.requires.free in
+    let free = subst (λ (r : Role). Free r d.row.name operations fragments) role c.requires.free in
     let e = c.enter_definition-in-2.ensures in
     record {
       kept = λ rows errors keys.
@@ -49,7 +49,7 @@ pub returns-in_default : goal.returns-in_default
 returns-in_default c =
     let p = c.args.progress in
     let d = c.args.definition in
-    let other : (d.kind ≡ 1 → ⊥) × (d.kind ≡ 2 → ⊥) = search rules in
+    let other : (d.row.kind ≡ 1 → ⊥) × (d.row.kind ≡ 2 → ⊥) = search rules in
     let role = system_role (stored_head d) other.0 other.1 in
     record {
       kept = λ rows errors keys.
