@@ -1,12 +1,12 @@
 -- What a probe comes to on a sound index: where a key is, and that the index stays sound with one key more.
-use Rattle.std.proofs.Common.{◌≡◌, ℕ, ◌+◌, ◌<◌, Bool, true, false, ◌&&◌, ltb, leb, List, [], ◌∷◌, ◌++◌, map, length, get_or, take, set, Some, None, Option, sym, refl, ap, ◌∙◌, subst, arith}
-use Rattle.std.proofs.lemmas.List.{length-map, length-take-le, map_push, take_more_set, take_all, get_or-map}
-use Rattle.std.proofs.lemmas.Bool.{and_parts, leb-true, ltb-true, le-leb, lt-ltb}
+use Rattle.std.proofs.Common.{◌≡◌, ℕ, ◌+◌, ◌<◌, Bool, true, false, List, [], ◌∷◌, ◌++◌, map, length, get_or, take, set, Some, Option, sym, refl, ap, ◌∙◌, subst, arith}
+use Rattle.std.proofs.lemmas.List.{length-map, length-take-le, map_push, take_more_set, get_or-map}
+use Rattle.std.proofs.lemmas.Bool.{ltb-true}
 use Rattle.ordered_index.specs.Law.{Lawful}
 use Rattle.ordered_index.specs.Slots.{limit}
-use Rattle.ordered_index.specs.Sound.{Sound, Located}
+use Rattle.ordered_index.specs.Sound.{Sound, Located, keys_of}
 use Rattle.ordered_index.specs.Probing.{probe_for, found_at}
-use Rattle.ordered_index.specs.Entering.{enter_room, insert_room, entered, present, slots_after, keys_after}
+use Rattle.ordered_index.specs.Entering.{enter_room, entered, present, slots_after, keys_after}
 use Rattle.ordered_index.specs.declared.probe.Probed.{Probed}
 use Rattle.ordered_index.specs.declared.probe.Probed.TheVariants.{Found, Vacant, Round}
 use Rattle.ordered_index.specs.declared.index.Entered.{Entered}
@@ -52,6 +52,12 @@ module _ {K : Type 0} (equal : K → K → Bool) (digest : K → ℕ) (laws : La
   -- a sound index finds the one place of a key, or that it has none
   pub located : Sound equal digest keys slots → Located equal keys q (found_at (probe_for equal digest keys slots q))
   located sound = located_at (probe_for equal digest keys slots q) sound (outcome equal keys slots q (digest q))
+
+  pub finding : (p : Probed) (r : Option ℕ) → p ≡ probe_for equal digest keys slots q → found_at p ≡ r
+      → (r ≡ found_at (probe_for equal digest keys slots q)) × (Sound equal digest keys slots → Located equal keys q r)
+  finding p r is gives =
+      let answer = sym gives ∙ ap found_at is in
+      (answer, λ sound. subst (Located equal keys q) (sym answer) (located sound))
 
   present_found : (p : Probed) (room : Bool) (count : ℕ) → present (entered p room count) ≡ found_at p
   present_found (Found n) room count = refl
@@ -101,79 +107,54 @@ module _ {K : Type 0} (equal : K → K → Bool) (digest : K → ℕ) (laws : La
       let family : Entered → Type 0 = λ x. Sound equal digest (keys_after keys x q) (slots_after p x slots) in
       subst (λ (l : List ℕ). Sound equal digest (keys_after keys r q) l) (sym then) (subst family (sym is) done)
 
--- what the calls on a table of entries answer, from the probe over the entries in use
-module _ {E K : Type 0} (keyed : E → K) (equal : K → K → Bool) (digest : K → ℕ) (laws : Lawful equal digest) (entries : List E) (count : ℕ) (slots : List ℕ) (q : K) where
+-- what entering a key among these entries comes to, from the end of its probe
+module _ {E K : Type 0} (keyed : E → K) (equal : K → K → Bool) (digest : K → ℕ) (laws : Lawful equal digest) (entries : List E) (slots : List ℕ) (q : K) where
   abbrev keys : List K
-  keys = map keyed (take count entries)
+  keys = map keyed entries
 
-  pub finding : (es : List E) → es ≡ take count entries → (p : Probed) → p ≡ probe_for equal digest (map keyed es) slots q
-      → (found_at p ≡ found_at (probe_for equal digest keys slots q)) × (Sound equal digest keys slots → Located equal keys q (found_at p))
-  finding es in_use p is =
-      let answer : found_at p ≡ found_at (probe_for equal digest keys slots q) = ap found_at (is ∙ ap (λ xs. probe_for equal digest (map keyed xs) slots q) in_use) in
-      (answer, λ sound. subst (Located equal keys q) (sym answer) (located equal digest laws keys slots q sound))
+  room_fits : enter_room entries slots ≡ true → (length keys ≡ length entries) × (length entries < limit slots)
+  room_fits room = (length-map entries keyed, ltb-true (length entries) (limit slots) room)
 
-  room_fits : enter_room entries count slots ≡ true → (length keys ≡ count) × (count < limit slots)
-  room_fits room =
-      let both = and_parts (leb count (length entries)) (ltb count (limit slots)) room in (
-        length-map (take count entries) keyed ∙ length-take-le count entries (leb-true count (length entries) both.0),
-        ltb-true count (limit slots) both.1,
-      )
-
-  pub entering : (es : List E) → es ≡ take count entries → (p : Probed) → p ≡ probe_for equal digest (map keyed es) slots q
-      → (r : Entered) → r ≡ entered p (enter_room entries count slots) count → (slots' : List ℕ) → slots' ≡ slots_after p r slots
-      → (r ≡ entered (probe_for equal digest keys slots q) (enter_room entries count slots) count)
+  pub entering : (p : Probed) → p ≡ probe_for equal digest keys slots q
+      → (r : Entered) → r ≡ entered p (enter_room entries slots) (length entries) → (slots' : List ℕ) → slots' ≡ slots_after p r slots
+      → (r ≡ entered (probe_for equal digest keys slots q) (enter_room entries slots) (length entries))
       × (slots' ≡ slots_after (probe_for equal digest keys slots q) r slots)
       × (Sound equal digest keys slots → Located equal keys q (present r))
+      × (Sound equal digest keys slots → r ≡ Full → enter_room entries slots ≡ false)
       × (Sound equal digest keys slots → Sound equal digest (keys_after keys r q) slots')
-      × (Sound equal digest keys slots → r ≡ Full → enter_room entries count slots ≡ false)
-  entering es in_use p is r answers slots' then =
-      let room = enter_room entries count slots in
-      let whole : p ≡ probe_for equal digest keys slots q = is ∙ ap (λ xs. probe_for equal digest (map keyed xs) slots q) in_use in
-      let answer : r ≡ entered (probe_for equal digest keys slots q) room count = answers ∙ ap (λ x. entered x room count) whole in
-      let written : slots' ≡ slots_after (probe_for equal digest keys slots q) r slots = then ∙ ap (λ x. slots_after x r slots) whole in (
+  entering p is r answers slots' then =
+      let room = enter_room entries slots in
+      let answer = answers ∙ ap (λ x. entered x room (length entries)) is in
+      let written = then ∙ ap (λ x. slots_after x r slots) is in (
         answer,
         written,
-        enter_located equal digest laws keys slots q room count r answer,
-        enter_sound equal digest laws keys slots q room count room_fits r answer slots' written,
-        enter_full equal digest laws keys slots q room count r answer,
+        enter_located equal digest laws keys slots q room (length entries) r answer,
+        enter_full equal digest laws keys slots q room (length entries) r answer,
+        enter_sound equal digest laws keys slots q room (length entries) room_fits r answer slots' written,
       )
 
-  -- the entry itself is written too
-  pub inserting : (e : E) → q ≡ keyed e → count < length entries → (n : ℕ) (slots' : List ℕ)
-      → Added n ≡ entered (probe_for equal digest keys slots q) (enter_room entries count slots) count
-      → slots' ≡ slots_after (probe_for equal digest keys slots q) (Added n) slots
-      → (Sound equal digest keys slots → Located equal keys q None)
-      → (Sound equal digest keys slots → Sound equal digest (keys ++ q ∷ []) slots')
-      → (Added n ≡ entered (probe_for equal digest keys slots (keyed e)) (insert_room entries count slots) count)
-      × (slots' ≡ slots_after (probe_for equal digest keys slots (keyed e)) (Added n) slots)
-      × (Sound equal digest keys slots → Located equal keys (keyed e) None)
-      × (Sound equal digest keys slots → Sound equal digest (map keyed (take (count + 1) (set entries n e))) slots')
-  inserting e is low n slots' answers then place sound =
-      let rooms : enter_room entries count slots ≡ insert_room entries count slots =
-      ap (λ b. b && ltb count (limit slots)) (le-leb count (length entries) (omega arith) ∙ sym (lt-ltb count (length entries) low)) in
-      let at : n ≡ count = added_at (probe_for equal digest keys slots q) (enter_room entries count slots) n answers in
-      let row : keys ++ q ∷ [] ≡ map keyed (take (count + 1) (set entries n e)) =
-      ap (λ k. keys ++ k ∷ []) is ∙ sym (map_push keyed (take count entries) e)
-      ∙ ap (map keyed) (sym (take_more_set entries count e low) ∙ ap (λ i. take (count + 1) (set entries i e)) (sym at)) in (
-        answers ∙ ap (λ k. entered (probe_for equal digest keys slots k) (enter_room entries count slots) count) is
-            ∙ ap (λ b. entered (probe_for equal digest keys slots (keyed e)) b count) rooms,
-        then ∙ ap (λ k. slots_after (probe_for equal digest keys slots k) (Added n) slots) is,
-        subst (λ (k : K). Sound equal digest keys slots → Located equal keys k None) is place,
-        λ sure. subst (λ (ks : List K). Sound equal digest ks slots') row (sound sure),
-      )
-    where
-      added_at : (p : Probed) (room : Bool) (m : ℕ) → Added m ≡ entered p room count → m ≡ count
-      added_at (Found j) room m h = let z : ◌≡◌ {A = ℕ} 0 1 = cc in absurd (omega arith)
-      added_at (Vacant j) true m h = cc
-      added_at (Vacant j) false m h = let z : ◌≡◌ {A = ℕ} 0 1 = cc in absurd (omega arith)
-      added_at Round room m h = let z : ◌≡◌ {A = ℕ} 0 1 = cc in absurd (omega arith)
+-- where the key of an entry was added, it is the key of the entry that is written there
+module _ {E K : Type 0} (keyed : E → K) (equal : K → K → Bool) (digest : K → ℕ) (entries : List E) (count : ℕ) where
+  added_at : (p : Probed) (room : Bool) (i n : ℕ) → Added n ≡ entered p room i → n ≡ i
+  added_at (Found j) room i n is = let z : ◌≡◌ {A = ℕ} 0 1 = cc in absurd (omega arith)
+  added_at (Vacant j) true i n is = cc
+  added_at (Vacant j) false i n is = let z : ◌≡◌ {A = ℕ} 0 1 = cc in absurd (omega arith)
+  added_at Round room i n is = let z : ◌≡◌ {A = ℕ} 0 1 = cc in absurd (omega arith)
+
+  pub inserting : (q : K) (e : E) → q ≡ keyed e → count < length entries
+      → (p : Probed) (room : Bool) (n : ℕ) → Added n ≡ entered p room (length (take count entries)) → (slots : List ℕ)
+      → Sound equal digest (keys_of keyed count entries ++ q ∷ []) slots → Sound equal digest (keys_of keyed (count + 1) (set entries n e)) slots
+  inserting q e is low p room n answers slots =
+      let at : n ≡ count = added_at p room (length (take count entries)) n answers ∙ length-take-le count entries (omega arith) in
+      let row : keys_of keyed count entries ++ q ∷ [] ≡ keys_of keyed (count + 1) (set entries n e) =
+      ap (λ k. keys_of keyed count entries ++ k ∷ []) is ∙ sym (map_push keyed (take count entries) e)
+      ∙ ap (map keyed) (sym (take_more_set entries count e low) ∙ ap (λ i. take (count + 1) (set entries i e)) (sym at)) in
+      subst (λ (keys : List K). Sound equal digest keys slots) row
 
 -- the probe for the key of an entry that was read
 pub own_found : {E K : Type 0} (keyed : E → K) (equal : K → K → Bool) (digest : K → ℕ) (entries : List E) (slots : List ℕ) (i : ℕ) (e : E) (k : K) (r : Option ℕ)
-    → i < length entries → e ≡ get_or entries i e → k ≡ keyed e → r ≡ found_at (probe_for equal digest (map keyed (take (length entries) entries)) slots k)
+    → i < length entries → e ≡ get_or entries i e → k ≡ keyed e → r ≡ found_at (probe_for equal digest (map keyed entries) slots k)
     → (x : K) → found_at (probe_for equal digest (map keyed entries) slots (get_or (map keyed entries) i x)) ≡ r
 own_found keyed equal digest entries slots i e k r low read is answer x =
     let same : get_or (map keyed entries) i x ≡ k = get_or-map keyed entries i e x low ∙ ap keyed (sym read) ∙ sym is in
-    ap (λ y. found_at (probe_for equal digest (map keyed entries) slots y)) same
-    ∙ ap (λ es. found_at (probe_for equal digest (map keyed es) slots k)) (sym (take_all (length entries) entries (omega arith)))
-    ∙ sym answer
+    ap (λ y. found_at (probe_for equal digest (map keyed entries) slots y)) same ∙ sym answer

@@ -3,7 +3,8 @@ use Rattle.std.proofs.Common.{◌≡◌, ℕ, zero, suc, ◌+◌, ◌<◌, ◌�
 use Rattle.std.proofs.lemmas.List.{get_or_default}
 use Rattle.std.proofs.lemmas.Bool.{both_ways, cases_Bool, cases_order, cases_eq}
 use Rattle.ordered_index.specs.Law.{Lawful}
-use Rattle.ordered_index.specs.Slots.{held, used, limit, PowerOfTwo}
+use Rattle.std.specs.Int.{IsPowerOfTwo}
+use Rattle.ordered_index.specs.Slots.{held, used, limit}
 use Rattle.ordered_index.specs.Sound.{Reached, Sound, Absent, Stands, Only}
 use Rattle.ordered_index.proofs.Ways.{AllMissed, Meets, Ends}
 
@@ -87,7 +88,7 @@ module _ {K : Type 0} (equal : K → K → Bool) (digest : K → ℕ) (laws : La
   }
 
   -- where each key is met by its own probe, the keys are reached and apart
-  pub met_sound : PowerOfTwo (length slots) → length keys ≤ limit slots → ((s : ℕ) → get_or slots s 0 ≤ length keys) → used slots ≡ length keys
+  pub met_sound : IsPowerOfTwo (length slots) → length keys ≤ limit slots → ((s : ℕ) → get_or slots s 0 ≤ length keys) → used slots ≡ length keys
       → ((n : ℕ) (x : K) → n < length keys → Meets equal keys slots (get_or keys n x) (digest (get_or keys n x)) n)
       → Sound equal digest keys slots
   met_sound power few ranged filled met = record {

@@ -3,15 +3,15 @@ use Rattle.std.proofs.Common.{◌≡◌, ℕ, suc, ◌+◌, ◌*◌, ◌/◌, �
 use lib.Arith.{bin_ind}
 use lib.Count.{ones, ones_step, ones_cat}
 use Rattle.std.proofs.lemmas.Bool.{cases_eq}
-use Rattle.ordered_index.specs.Slots.{PowerOfTwo}
+use Rattle.std.specs.Int.{IsPowerOfTwo}
 
 none_set : (n : ℕ) → ones n ≡ 0 → n ≡ 0
 none_set = bin_ind (λ n. ones n ≡ 0 → n ≡ 0) (λ _. refl)
     (λ n half is. let s = ones_step n in let z : n / 2 ≡ 0 = half (omega arith) in omega arith)
 
-pub one_set : (n : ℕ) → ones n ≡ 1 → PowerOfTwo n
+pub one_set : (n : ℕ) → ones n ≡ 1 → IsPowerOfTwo n
 unfolding ones
-one_set = bin_ind (λ n. ones n ≡ 1 → PowerOfTwo n) (λ is. absurd (omega arith))
+one_set = bin_ind (λ n. ones n ≡ 1 → IsPowerOfTwo n) (λ is. absurd (omega arith))
     (λ n half is.
     let s = ones_step n in
     ⊎_elim
@@ -23,7 +23,7 @@ one_set = bin_ind (λ n. ones n ≡ 1 → PowerOfTwo n) (λ is. absurd (omega ar
     (0, omega arith))
     (cases_eq (n % 2) 0))
 
-pub power_set : (n : ℕ) → PowerOfTwo n → ones n ≡ 1
+pub power_set : (n : ℕ) → IsPowerOfTwo n → ones n ≡ 1
 unfolding ones
 power_set n p =
     let plain : n ≡ 1 * 2 ^ p.0 + 0 = omega (arith, p.1) in

@@ -4,7 +4,8 @@ use native.Mathlib.Nat.{min-le_left, add-mod-mod, mod-add-mod, add-mod_right}
 use Rattle.std.proofs.lemmas.List.Sums.{sum_by-cons}
 use Rattle.std.proofs.lemmas.List.{get_or_past}
 use Rattle.std.proofs.lemmas.Bool.{lt-ltb, cases_lt}
-use Rattle.ordered_index.specs.Slots.{used, PowerOfTwo}
+use Rattle.std.specs.Int.{IsPowerOfTwo}
+use Rattle.ordered_index.specs.Slots.{used}
 use Rattle.ordered_index.specs.Sound.{Sound}
 use Rattle.ordered_index.proofs.Ways.{AllMissed}
 
@@ -54,7 +55,7 @@ used_none (x ∷ xs) empty =
     omega arith
 
 -- empty slots are an index of no key
-pub sound_none : {K : Type 0} (equal : K → K → Bool) (digest : K → ℕ) (slots : List ℕ) → PowerOfTwo (length slots)
+pub sound_none : {K : Type 0} (equal : K → K → Bool) (digest : K → ℕ) (slots : List ℕ) → IsPowerOfTwo (length slots)
     → ((i : ℕ) → i < length slots → get_or slots i 0 ≡ 0) → Sound equal digest [] slots
 sound_none equal digest slots power empty = record {
   power = power;

@@ -1,5 +1,5 @@
 -- The slots of an index: which comes first for a hash, which follows which, what they hold, how many keys they serve.
-use Rattle.std.specs.Prelude.{◌≡◌, ℕ, ◌+◌, ◌/◌, ◌%◌, ◌^◌, min, List, length, count_by, nat_lt, slice_index}
+use Rattle.std.specs.Prelude.{ℕ, ◌+◌, ◌/◌, ◌%◌, min, List, length, count_by, nat_lt, slice_index}
 
 -- the slot where probing starts: the hash's remainder by the number of slots
 abbrev pub slot_start : ℕ → ℕ → ℕ
@@ -20,9 +20,6 @@ held slots hash d = slice_index slots (spot slots hash d)
 -- how many slots are in use
 abbrev pub used : List ℕ → ℕ
 used slots = count_by (nat_lt 0) slots
-
-abbrev pub PowerOfTwo : ℕ → Type 0
-PowerOfTwo n = (k : ℕ) × (n ≡ 2 ^ k)
 
 -- how many keys the slots serve: there are twice as many slots, and a slot of 32 bits can name each place
 abbrev pub limit : List ℕ → ℕ

@@ -1,6 +1,7 @@
 -- When slots are a sound index of a row of keys, and where a key is in the row.
 use Rattle.std.specs.Prelude.{◌≡◌, ℕ, ◌+◌, ◌<◌, ◌≤◌, Bool, true, false, List, map, length, take, Some, None, Option, slice_index, slice_index_or}
-use Rattle.ordered_index.specs.Slots.{held, used, limit, PowerOfTwo}
+use Rattle.std.specs.Int.{IsPowerOfTwo}
+use Rattle.ordered_index.specs.Slots.{held, used, limit}
 
 -- the keys of the first entries of a table, so many as are in use
 abbrev pub keys_of : {E K : Type 0} → (E → K) → ℕ → List E → List K
@@ -16,7 +17,7 @@ pub record Reached (slots : List ℕ) (hash n : ℕ) : Type 0 where
 -- the slots are an index of the keys: there are a power of two of them and the keys keep their limit, no slot holds a
 -- place past the keys, as many slots are in use as there are keys, each key is reached from its hash, no two are equal
 pub record Sound {K : Type 0} (equal : K → K → Bool) (digest : K → ℕ) (keys : List K) (slots : List ℕ) : Type 0 where
-  pub power : PowerOfTwo (length slots)
+  pub power : IsPowerOfTwo (length slots)
   pub few : length keys ≤ limit slots
   pub ranged : (s : ℕ) → slice_index slots s ≤ length keys
   pub filled : used slots ≡ length keys

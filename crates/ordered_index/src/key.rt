@@ -1,20 +1,15 @@
 // What an index asks of keys and entries: an equality and a hash with their law, and a key in each entry.
-ghost use Rattle.std.specs.Prelude.{◌≡◌, ℕ, Bool};
+ghost use Rattle.std.specs.Prelude.{◌≡◌, ℕ};
 ghost use Rattle.ordered_index.specs.Law.{Lawful};
 
 // A key: its equality is an equivalence, and equal keys hash equal.
-pub trait Key: Copy {
-    ghost equal: { Self → Self → Bool };
-
+pub trait Key: Copy + Eq {
     ghost digest: { Self → ℕ };
-
-    fn equals(&self, other: &Self) -> bool
-        ensures { result ≡ equal self.now other.now };
 
     fn hash(&self) -> u32
         ensures { result ≡ digest self.now };
 
-    ghost lawful: { Lawful equal digest };
+    ghost lawful: { Lawful Self.eq digest };
 }
 
 // What stands in an index: a value that has a key.

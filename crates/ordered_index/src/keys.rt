@@ -1,5 +1,5 @@
 // The two types of keys: a name, which is its number, and a field of a type by both names.
-ghost use Rattle.ordered_index.specs.Keys.{same_name, name_hash, same_field, field_hash};
+ghost use Rattle.ordered_index.specs.Keys.{name_hash, field_hash};
 ghost use Rattle.ordered_index.specs.Laws.{name_lawful, field_lawful};
 
 use crate::key::{Entry, Key};
@@ -7,15 +7,9 @@ use crate::key::{Entry, Key};
 // Names are given in order of their first use, so near numbers should go to slots of their own: the upper half of a
 // product with an odd constant near 2^32 divided by the golden ratio does that.
 impl Key for u32 {
-    ghost equal = { same_name };
-
     ghost digest = { name_hash };
 
     ghost lawful = { name_lawful };
-
-    fn equals(&self, other: &u32) -> bool {
-        *self == *other
-    }
 
     fn hash(&self) -> u32 {
         self.wrapping_mul(2654435769) >> 16
@@ -23,22 +17,16 @@ impl Key for u32 {
 }
 
 /// A field of a type: the type that owns it and its name there.
-#[derive(Clone, Copy)]
+#[derive(Clone, Copy, PartialEq, Eq)]
 pub struct TypeField {
     pub owner: u32,
     pub field: u32,
 }
 
 impl Key for TypeField {
-    ghost equal = { same_field };
-
     ghost digest = { field_hash };
 
     ghost lawful = { field_lawful };
-
-    fn equals(&self, other: &TypeField) -> bool {
-        self.owner == other.owner && self.field == other.field
-    }
 
     fn hash(&self) -> u32 {
         let owner = self.owner.wrapping_mul(2654435769);

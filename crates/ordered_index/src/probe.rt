@@ -30,7 +30,7 @@ fn next_slot(at: usize, size: usize) -> usize
 }
 
 pub fn probe<E: Entry>(entries: &[E], slots: &[u32], key: &E::Of) -> Probed
-    ensures { result ≡ probe_for E.Of.Key.equal E.Of.Key.digest (map E.Entry.keyed entries.now) slots.now key.now }
+    ensures { result ≡ probe_for E.Of.eq E.Of.digest (map E.keyed entries.now) slots.now key.now }
 {
     let size = slots.len();
     if size == 0 {
@@ -43,7 +43,7 @@ pub fn probe<E: Entry>(entries: &[E], slots: &[u32], key: &E::Of) -> Probed
             return Probed::Vacant(at);
         }
         if held <= entries.len() {
-            if entries[held - 1].key().equals(key) {
+            if entries[held - 1].key() == *key {
                 return Probed::Found(held - 1);
             }
         }

@@ -66,7 +66,7 @@ fn each_slot_matters(rt: &impl Abort, entries: &[Named], slots: &mut [u32]) -> R
         for other in [0, 1, 2, 3, 4, 5, 8, u32::MAX] {
             slots[s] = other;
             assert_eq!(rt;
-                agrees(entries, entries.len(), slots),
+                agrees(entries, slots),
                 other == held,
                 "{} names; slot {}",
                 entries.len(),
@@ -75,7 +75,7 @@ fn each_slot_matters(rt: &impl Abort, entries: &[Named], slots: &mut [u32]) -> R
         }
         slots[s] = held;
     }
-    assert!(rt; agrees(entries, entries.len(), slots));
+    assert!(rt; agrees(entries, slots));
     Ok(())
 }
 
@@ -129,7 +129,8 @@ fn slots_beside_names(rt: HostRuntime) -> Result<(), Fail> {
     for i in 0..BESIDE.len() {
         let (names, count, slots, sound) = BESIDE[i];
         let entries = named(rt.alloc(), names)?;
-        assert_eq!(rt; agrees(entries.as_slice(), count, slots), sound, "{}", i);
+        let in_use = &entries.as_slice()[..count.min(entries.len())];
+        assert_eq!(rt; agrees(in_use, slots), sound, "{}", i);
     }
     Ok(())
 }
@@ -139,19 +140,9 @@ fn slots_beside_names(rt: HostRuntime) -> Result<(), Fail> {
 fn no_way_to_a_slot(rt: HostRuntime) {
     let mut entries = [Named { name: 5 }; 4];
     let mut slots = [1u32, 9, 1, u32::MAX];
-    assert_eq!(rt; find(&entries, 1, &slots, &6), None);
-    assert!(rt;
-        matches!(
-            insert(&mut entries, 1, &mut slots, Named { name: 6 }),
-            Entered::Full
-        )
-    );
-    assert!(rt;
-        matches!(
-            insert(&mut entries, 1, &mut [], Named { name: 6 }),
-            Entered::Full
-        )
-    );
+    assert_eq!(rt; find(&entries[..1], &slots, &6), None);
+    assert_eq!(rt; insert(&mut entries, 1, &mut slots, Named { name: 6 }), Entered::Full);
+    assert_eq!(rt; insert(&mut entries, 1, &mut [], Named { name: 6 }), Entered::Full);
     assert_eq!(rt; slots, [1, 9, 1, u32::MAX]);
     empty::<Named>(&mut slots);
     assert_eq!(rt; slots, [0, 0, 0, 0]);
@@ -165,16 +156,11 @@ fn no_entry_left(rt: HostRuntime) -> Result<(), Fail> {
     let mut entries = new;
     let mut slots = [0u32; 8];
     fill(&rt, &mut entries, &mut slots, &new)?;
-    assert!(rt;
-        matches!(
-            insert(&mut entries, 2, &mut slots, Named { name: 2 }),
-            Entered::Full
-        )
-    );
+    assert_eq!(rt; insert(&mut entries, 2, &mut slots, Named { name: 2 }), Entered::Full);
     assert_eq!(rt; slots, [1, 0, 0, 0, 0, 0, 0, 2]);
-    assert!(rt; matches!(enter(&entries, 3, &mut slots, &2), Entered::Full));
+    assert_eq!(rt; insert(&mut entries, 3, &mut slots, Named { name: 2 }), Entered::Full);
     assert_eq!(rt; slots, [1, 0, 0, 0, 0, 0, 0, 2]);
-    assert!(rt; matches!(enter(&entries, 2, &mut slots, &2), Entered::Added(2)));
+    assert_eq!(rt; enter(&entries, &mut slots, &2), Entered::Added(2));
     assert_eq!(rt; slots, [1, 0, 0, 0, 0, 0, 3, 2]);
     Ok(())
 }

@@ -68,11 +68,10 @@ pub fn fill<E: Entry>(
     slots: &mut [u32],
     new: &[E],
 ) -> Result<(), Fail> {
-    assert!(rt; agrees(entries, 0, slots));
+    assert!(rt; agrees(&entries[..0], slots));
     for i in 0..new.len() {
-        let entered = insert(entries, i, slots, new[i]);
-        assert!(rt; matches!(entered, Entered::Added(n) if n == i), "{}", i);
-        assert!(rt; agrees(entries, i + 1, slots), "{}", i);
+        assert_eq!(rt; insert(entries, i, slots, new[i]), Entered::Added(i), "{}", i);
+        assert!(rt; agrees(&entries[..i + 1], slots), "{}", i);
     }
     Ok(())
 }
@@ -88,12 +87,10 @@ fn each_at_its_place<E: Entry>(
     let count = present.len();
     for i in 0..count {
         let key = present[i].key();
-        assert_eq!(rt; find(entries, count, slots, &key), Some(i), "{}", i);
-        assert_eq!(rt; find(entries, i, slots, &key), None, "{}", i);
-        let inserted = insert(entries, count, slots, present[i]);
-        assert!(rt; matches!(inserted, Entered::Present(n) if n == i), "{}", i);
-        let entered = enter(entries, count, slots, &key);
-        assert!(rt; matches!(entered, Entered::Present(n) if n == i), "{}", i);
+        assert_eq!(rt; find(&entries[..count], slots, &key), Some(i), "{}", i);
+        assert_eq!(rt; find(&entries[..i], slots, &key), None, "{}", i);
+        assert_eq!(rt; insert(entries, count, slots, present[i]), Entered::Present(i), "{}", i);
+        assert_eq!(rt; enter(&entries[..count], slots, &key), Entered::Present(i), "{}", i);
     }
 }
 
@@ -107,9 +104,9 @@ fn all_refused<E: Entry>(
 ) {
     for entry in absent {
         let key = entry.key();
-        assert_eq!(rt; find(entries, count, slots, &key), None);
-        assert!(rt; matches!(insert(entries, count, slots, *entry), Entered::Full));
-        assert!(rt; matches!(enter(entries, count, slots, &key), Entered::Full));
+        assert_eq!(rt; find(&entries[..count], slots, &key), None);
+        assert_eq!(rt; insert(entries, count, slots, *entry), Entered::Full);
+        assert_eq!(rt; enter(&entries[..count], slots, &key), Entered::Full);
     }
 }
 

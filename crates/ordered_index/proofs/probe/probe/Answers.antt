@@ -1,28 +1,20 @@
 use Rattle.std.proofs.Common.{◌≡◌, ℕ, ◌+◌, ◌-◌, ◌<◌, map, length, get_or, sym, ap, ◌∙◌, subst, mod-lt, arith}
 use Rattle.ordered_index.specs.Probing.{names, probe}
-use Rattle.ordered_index.proofs.Probes.{probe_vacant, probe_found, probe_next, names_read, names_none}
+use Rattle.ordered_index.proofs.Probes.{probe_found, probe_next, names_read, names_none}
 use Rattle.ordered_index.proofs.probe.probe.Goals as goal
-use Rattle.ordered_index.proofs.probe.probe.Goals.{then-held-entries+else-equals, else-held-entries}
+use Rattle.ordered_index.proofs.probe.probe.Goals.{then-held-entries+else-eq, else-held-entries}
 
-pub returns-then-held-eq0 : goal.returns-then-held-eq0
-returns-then-held-eq0 g c =
-    let slots = c.args.slots.now in
-    let step = c.loop-step.step in
-    let keys = map g.E.Entry.keyed c.args.entries.now in
-    sym (probe_vacant g.E.Of.Key.equal keys slots c.args.key.now c.loop-step.at (length slots - step) (length slots - (step + 1)) (omega arith) c.if-held-eq0.true)
-    ∙ c.loop-step.invariant.1
-
-pub returns-then-equals : goal.returns-then-equals
-returns-then-equals g c =
+pub returns-then-eq : goal.returns-then-eq
+returns-then-eq g c =
     let slots = c.args.slots.now in
     let entries = c.args.entries.now in
     let q = c.args.key.now in
     let at = c.loop-step.at in
     let step = c.loop-step.step in
     let read = c.index-entries-held.result in
-    let same = sym c.if-equals.true ∙ c.equals.ensures ∙ ap (λ k. g.E.Of.Key.equal k q) c.key.ensures in
-    let named = names_read g.E.Entry.keyed g.E.Of.Key.equal entries q (get_or slots at 0) read _ c.if-held-eq0.false c.if-held-entries.true c.index-entries-held.is same in
-    sym (probe_found g.E.Of.Key.equal (map g.E.Entry.keyed entries) slots q at (length slots - step) (length slots - (step + 1)) (omega arith) c.if-held-eq0.false named)
+    let same = sym c.if-eq.true ∙ c.eq.ensures ∙ ap (λ k. g.E.Of.PartialEq.eq k q) c.key.ensures in
+    let named = names_read g.E.Entry.keyed g.E.Of.PartialEq.eq entries q (get_or slots at 0) read _ c.if-held-eq0.false c.if-held-entries.true c.index-entries-held.is same in
+    sym (probe_found g.E.Of.PartialEq.eq (map g.E.Entry.keyed entries) slots q at (length slots - step) (length slots - (step + 1)) (omega arith) c.if-held-eq0.false named)
     ∙ c.loop-step.invariant.1
 
 pub loop-step-preserved : goal.loop-step-preserved
@@ -30,7 +22,7 @@ loop-step-preserved g c =
     let slots = c.args.slots.now in
     let entries = c.args.entries.now in
     let keys = map g.E.Entry.keyed entries in
-    let equal = g.E.Of.Key.equal in
+    let equal = g.E.Of.PartialEq.eq in
     let q = c.args.key.now in
     let at = c.loop-step.at in
     let step = c.loop-step.step in
@@ -38,9 +30,9 @@ loop-step-preserved g c =
     let next = c.next_slot-at.ensures in
     let other : names equal keys q (get_or slots at 0) ≡ _ =
     elim c.if-held-entries.branch [
-      | then-held-entries+else-equals w ↦
+      | then-held-entries+else-eq w ↦
           names_read g.E.Entry.keyed equal entries q (get_or slots at 0) w.index-entries-held.result _ c.if-held-eq0.false w.if-held-entries.true w.index-entries-held.is
-          (sym w.if-equals.false ∙ w.equals.ensures ∙ ap (λ k. equal k q) w.key.ensures)
+          (sym w.if-eq.false ∙ w.eq.ensures ∙ ap (λ k. equal k q) w.key.ensures)
       | else-held-entries w ↦ names_none g.E.Entry.keyed equal entries q (get_or slots at 0) w.if-held-entries.false
     ] in
     let goes = probe_next equal keys slots q at (length slots - step) (length slots - (step + 1)) (omega arith) c.if-held-eq0.false other in (

@@ -7,5 +7,5 @@ abbrev pub invariant-loop-step : goal.invariant-loop-step
 invariant-loop-step g l =
     let keys = map g.E.Entry.keyed l.entries in
     (l.at < length l.slots)
-    × (probe g.E.Of.Key.equal keys l.slots l.key l.at (length l.slots - l.step)
-    ≡ probe_for g.E.Of.Key.equal g.E.Of.Key.digest keys l.slots l.key)
+    × (probe g.E.Of.PartialEq.eq keys l.slots l.key l.at (length l.slots - l.step)
+    ≡ probe_for g.E.Of.PartialEq.eq g.E.Of.Key.digest keys l.slots l.key)
