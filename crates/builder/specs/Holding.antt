@@ -12,7 +12,7 @@ use Rattle.selection_rules.specs.declared.error.BuildError.{BuildError}
 use Rattle.selection_rules.specs.Errors.{Error, error_rows, keys_in}
 use Rattle.building_rules.specs.Definitions.{Accepted, Kept, Taken, State, step, kept_from, errors_from, state_after}
 use Rattle.stored_tables.specs.declared.definition.StoredDefinition.{StoredDefinition}
-use Rattle.stored_tables.specs.Layout.{rows_of, rows_kept, operations_of, fragments_of, anonymous_of}
+use Rattle.stored_tables.specs.Layout.{name_of, rows_of, rows_kept, operations_of, fragments_of, anonymous_of}
 use Rattle.builder.specs.declared.progress.Progress.{Progress}
 use Rattle.builder.specs.Filling.{put, Output, output, filled_to}
 
@@ -27,7 +27,7 @@ table entries slots count = record { entries = entries; slots = slots; count = c
 
 -- the names of the definitions that are stored in a table
 abbrev pub names_in : Table → List ℕ
-names_in t = keys_of (λ d. d.row.name) t.count t.entries
+names_in t = keys_of name_of t.count t.entries
 
 -- the slots once a name that is not yet there has the next place: the slot at which its probe ends names that place
 abbrev pub slots_with : Table → ℕ → List ℕ
@@ -80,10 +80,6 @@ state anonymous multiple operations n fragments k =
 abbrev pub state_of : Held → State
 state_of h =
     state h.anonymous h.multiple h.operations.entries h.operations.count h.fragments.entries h.fragments.count
-
--- the same, told of a builder's own values and its two tables of definitions
-abbrev pub state_before : Progress → List StoredDefinition → List StoredDefinition → State
-state_before p operations fragments = state p.anonymous p.multiple_anonymous operations p.operations fragments p.fragments
 
 -- kept definitions with their rows, and errors with their path keys, behind what was there; all else is as it was
 abbrev pub filled_with : Held → List Kept → List Error → Bool → Held

@@ -16,7 +16,7 @@ ghost use Rattle.builder.specs.Storing.{store_as, Free, Indexed};
 use crate::filled::Filled;
 use crate::path::OpenPath;
 use crate::progress::Progress;
-use crate::ruling::{Ruling, operation_type, rule};
+use crate::ruling::{Ruling, operation_type};
 use crate::set::build_set;
 use document::{DefinitionRow, Document};
 use ordered_index::{Entered, insert};

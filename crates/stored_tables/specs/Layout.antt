@@ -12,6 +12,9 @@ use Rattle.stored_tables.specs.declared.definition.StoredDefinition.{StoredDefin
 abbrev pub stored_definition : Head → ℕ → ℕ → ℕ → StoredDefinition
 stored_definition h first end set_type = record { row = definition_row h first end; set_type = set_type }
 
+abbrev pub name_of : StoredDefinition → ℕ
+name_of d = d.row.name
+
 -- the head of a stored definition
 abbrev pub stored_head : StoredDefinition → Head
 stored_head d = head_of d.row

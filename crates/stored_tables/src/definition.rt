@@ -1,7 +1,7 @@
 // A definition as it is stored: its row, the range of its stored rows, and the type around them. It is found by its name.
 ghost use Rattle.std.specs.Prelude.{◌≡◌};
 ghost use Rattle.document.specs.Rows.{head_of};
-ghost use Rattle.stored_tables.specs.Layout.{stored_definition};
+ghost use Rattle.stored_tables.specs.Layout.{name_of, stored_definition};
 
 use document::DefinitionRow;
 use ordered_index::Entry;
@@ -28,7 +28,7 @@ impl StoredDefinition {
 impl Entry for StoredDefinition {
     type Of = u32;
 
-    ghost keyed = { λ d. d.row.name };
+    ghost keyed = { name_of };
 
     fn key(&self) -> u32 {
         self.row.name
