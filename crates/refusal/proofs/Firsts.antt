@@ -1,6 +1,6 @@
 -- The steps of a search for the first fault, and what its absence says of each row.
-use Rattle.std.proofs.Common.{◌≡◌, ℕ, zero, suc, ◌+◌, ◌<◌, Some, None, Option, refl, ap, ◌∙◌, arith}
-use Rattle.refusal.specs.Firsts.{at_row, first_fault, or_else}
+use Rattle.std.proofs.Common.{◌≡◌, ℕ, zero, suc, ◌+◌, ◌<◌, Some, None, Ok, Err, Option, refl, ap, ◌∙◌, arith}
+use Rattle.refusal.specs.Firsts.{at_row, first_fault, or_else, verdict_of}
 
 module _ {F G : Type 0} (told : F → ℕ → G) (fault : ℕ → Option F) where
   -- a row without a fault hands on to the next
@@ -60,3 +60,12 @@ first_parts told fault i (suc a) b =
 pub or_else_none : {G : Type 0} (a b : Option G) → or_else a b ≡ None → (a ≡ None) × (b ≡ None)
 or_else_none None b is = (refl, is)
 or_else_none (Some x) b is = let z : ◌≡◌ {A = ℕ} 0 1 = cc in absurd (omega arith)
+
+-- what the answer of a check says of the fault
+pub verdict_ok : {G : Type 0} (a : Option G) → verdict_of a ≡ Ok tt → a ≡ None
+verdict_ok None is = refl
+verdict_ok (Some x) is = let z : ◌≡◌ {A = ℕ} 0 1 = cc in absurd (omega arith)
+
+pub verdict_err : {G : Type 0} (a : Option G) (x : G) → verdict_of a ≡ Err x → a ≡ Some x
+verdict_err None x is = let z : ◌≡◌ {A = ℕ} 0 1 = cc in absurd (omega arith)
+verdict_err (Some y) x is = cc
