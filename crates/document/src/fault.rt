@@ -1,12 +1,11 @@
-// Why two tables are no document, and the refusal in numbers that says so.
-ghost use Rattle.std.specs.Prelude.{◌≡◌};
-ghost use Rattle.document.specs.Verdict.{row_fault_number, document_refusal};
-
+// Why two tables are no document, in words and as a refusal.
 use layout::RowFault;
-use refusal::{Layer, Refusal};
+use refusal::{Layer, Reason, Refusal};
+use std::error::Error;
+use std::fmt;
 
 /// Why a document is refused. A row is told by its place plus 1.
-#[derive(Clone, Copy)]
+#[derive(Clone, Copy, PartialEq, Eq, Debug)]
 pub enum DocumentFault {
     /// More definitions than a document holds.
     TooManyDefinitions,
@@ -20,33 +19,41 @@ pub enum DocumentFault {
     InRows(RowFault, u32),
 }
 
-// The number of what is wrong with a row.
-fn row_fault_number(fault: RowFault) -> u32
-    ensures { result ≡ row_fault_number fault }
-{
-    match fault {
-        RowFault::NameMissing => 5,
-        RowFault::Broken => 10,
-        RowFault::TooDeep => 11,
-    }
-}
+impl From<DocumentFault> for Refusal {
+    ghost use Rattle.std.specs.Prelude.{◌≡◌};
+    ghost use Rattle.document.specs.Verdict.{document_refusal};
 
-impl DocumentFault {
-    /// The refusal in numbers.
-    pub fn refusal(self) -> Refusal
-        ensures { result ≡ document_refusal self }
-    {
-        let (number, row) = match self {
-            DocumentFault::TooManyDefinitions => (2, 0),
-            DocumentFault::TooManyRows => (3, 0),
-            DocumentFault::NoDefinition => (10, 0),
-            DocumentFault::InDefinitions(fault, row) => (row_fault_number(fault), row),
-            DocumentFault::InRows(fault, row) => (row_fault_number(fault), row),
+    ghost from_gives = { λ fault refusal. refusal ≡ document_refusal fault };
+
+    fn from(fault: DocumentFault) -> Refusal {
+        let (reason, row) = match fault {
+            DocumentFault::TooManyDefinitions => (Reason::TooManyDefinitions, 0),
+            DocumentFault::TooManyRows => (Reason::TooManyRows, 0),
+            DocumentFault::NoDefinition => (Reason::Broken, 0),
+            DocumentFault::InDefinitions(fault, row) | DocumentFault::InRows(fault, row) => {
+                (fault.into(), row)
+            }
         };
         Refusal {
-            number,
+            reason,
             layer: Layer::DocumentTables,
             row,
         }
     }
 }
+
+impl fmt::Display for DocumentFault {
+    fn fmt<W: fmt::Write>(&self, f: &mut fmt::Formatter<W>) -> fmt::Result {
+        match self {
+            DocumentFault::TooManyDefinitions => {
+                write!(f, "it has more definitions than a document holds")
+            }
+            DocumentFault::TooManyRows => write!(f, "it has more rows than a document holds"),
+            DocumentFault::NoDefinition => write!(f, "it has rows, but no definition"),
+            DocumentFault::InDefinitions(fault, row) => write!(f, "definition {row} {fault}"),
+            DocumentFault::InRows(fault, row) => write!(f, "row {row} {fault}"),
+        }
+    }
+}
+
+impl Error for DocumentFault {}

@@ -2,8 +2,12 @@
 ghost use Rattle.std.specs.Prelude.{◌≡◌};
 ghost use Rattle.layout.specs.declared.row.RowView.{RowView};
 
+use refusal::Reason;
+use std::error::Error;
+use std::fmt;
+
 /// What is wrong with a row.
-#[derive(Clone, Copy)]
+#[derive(Clone, Copy, PartialEq, Eq, Debug)]
 pub enum RowFault {
     /// A name that is 0 where one is needed.
     NameMissing,
@@ -13,8 +17,35 @@ pub enum RowFault {
     TooDeep,
 }
 
+impl From<RowFault> for Reason {
+    ghost use Rattle.layout.specs.Places.{row_reason};
+
+    ghost from_gives = { λ fault reason. reason ≡ row_reason fault };
+
+    fn from(fault: RowFault) -> Reason {
+        match fault {
+            RowFault::NameMissing => Reason::NameMissing,
+            RowFault::Broken => Reason::Broken,
+            RowFault::TooDeep => Reason::TooDeep,
+        }
+    }
+}
+
+/// The fault as it follows the row that has it.
+impl fmt::Display for RowFault {
+    fn fmt<W: fmt::Write>(&self, f: &mut fmt::Formatter<W>) -> fmt::Result {
+        f.write_str(match self {
+            RowFault::NameMissing => "lacks a name",
+            RowFault::Broken => "breaks the layout",
+            RowFault::TooDeep => "stands deeper than 32",
+        })
+    }
+}
+
+impl Error for RowFault {}
+
 /// What the layout sees of a row.
-#[derive(Clone, Copy)]
+#[derive(Clone, Copy, PartialEq, Eq, Debug)]
 pub struct RowView {
     /// The place after the rows beneath the row.
     pub end: u32,
@@ -35,7 +66,7 @@ pub trait Row: Copy {
 }
 
 /// The first row that does not fit: what is wrong with it, and its place plus 1.
-#[derive(Clone, Copy)]
+#[derive(Clone, Copy, PartialEq, Eq, Debug)]
 pub struct Misfit {
     pub fault: RowFault,
     pub row: usize,
