@@ -11,7 +11,7 @@ ghost use Rattle.builder.specs.Filling.{path_of, output, with_set, Room};
 
 use crate::filled::Filled;
 use crate::path::OpenPath;
-use document::{Document, SelectionRow, SelectionSet};
+use document::{Document, SelectionKind, SelectionRow, SelectionSet};
 use schema::Schema;
 use selection_rules::{BuildError, SelectionFault, SelectionPath, Settled, StoredRow, settle};
 
@@ -81,7 +81,7 @@ fn list_fault(
 fn settle_in<S: Schema>(schema: &S, around: u32, row: &SelectionRow, beneath: bool) -> Settled
     ensures { result ≡ settled_in (S.Schema.meaning schema.now) around (selection_of row.now) beneath }
 {
-    if row.kind == 2 {
+    if row.selection_kind() == Some(SelectionKind::Spread) {
         return Settled::Kept {
             place: 0,
             set_type: around,
@@ -95,7 +95,10 @@ fn settle_in<S: Schema>(schema: &S, around: u32, row: &SelectionRow, beneath: bo
 fn open_in(row: &SelectionRow, place: u32, inner: u32) -> StoredRow
     ensures { result ≡ stored_row (stored_in (selection_of row.now) place inner) 0 }
 {
-    let set_type = if row.kind == 2 { 0 } else { inner };
+    let set_type = match row.selection_kind() {
+        Some(SelectionKind::Spread) => 0,
+        _ => inner,
+    };
     StoredRow::open(row, place, set_type)
 }
 

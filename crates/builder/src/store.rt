@@ -18,7 +18,7 @@ use crate::path::OpenPath;
 use crate::progress::Progress;
 use crate::ruling::{Ruling, operation_type};
 use crate::set::build_set;
-use document::{DefinitionRow, Document};
+use document::{DefinitionKind, DefinitionRow, Document};
 use ordered_index::{Entered, insert};
 use schema::Schema;
 use selection_rules::{BuildError, ExecutableDefinitionName, StoredRow};
@@ -53,9 +53,13 @@ fn list_ruling(ruling: &Ruling, errors: &mut [BuildError], at: usize) -> usize
 fn root_name_of(row: &DefinitionRow) -> ExecutableDefinitionName
     ensures { result ≡ root_name (head_of row.now) }
 {
-    match row.kind {
-        1 if row.name == 0 => ExecutableDefinitionName::AnonymousOperation(operation_type(row)),
-        1 => ExecutableDefinitionName::NamedOperation(operation_type(row), row.name),
+    match row.definition_kind() {
+        Some(DefinitionKind::Operation) if row.name == 0 => {
+            ExecutableDefinitionName::AnonymousOperation(operation_type(row))
+        }
+        Some(DefinitionKind::Operation) => {
+            ExecutableDefinitionName::NamedOperation(operation_type(row), row.name)
+        }
         _ => ExecutableDefinitionName::Fragment(row.name),
     }
 }
@@ -97,9 +101,11 @@ fn keep_definition(
     ensures fragments { Indexed (table fragments.new fragment_slots.new result.fragments) }
 {
     let mut next = progress;
-    match definition.row.kind {
-        1 if definition.row.name == 0 => next.anonymous = Some(definition),
-        1 => {
+    match definition.row.definition_kind() {
+        Some(DefinitionKind::Operation) if definition.row.name == 0 => next.anonymous = Some(
+            definition,
+        ),
+        Some(DefinitionKind::Operation) => {
             next.operations = enter_definition(
                 definition,
                 operations,
@@ -107,7 +113,7 @@ fn keep_definition(
                 operation_slots,
             );
         }
-        2 => {
+        Some(DefinitionKind::Fragment) => {
             next.fragments = enter_definition(
                 definition,
                 fragments,

@@ -1,9 +1,9 @@
 // What rows are, as enums; the rows themselves hold numbers, and a number may be none of a kind.
 ghost use Rattle.std.specs.Prelude.{◌≡◌};
+ghost use Rattle.refusal.specs.Numbered.{case_or_unknown};
 ghost use Rattle.document.specs.Kinds.{selection_kind, definition_kind};
 
-use std::error::Error;
-use std::fmt;
+use refusal::UnknownNumber;
 
 /// What a selection is.
 #[derive(Clone, Copy, PartialEq, Eq, Debug)]
@@ -21,44 +21,32 @@ pub enum DefinitionKind {
     TypeSystem,
 }
 
-/// A number that is of no kind.
-#[derive(Clone, Copy, PartialEq, Eq, Debug)]
-pub struct UnknownKind(pub u32);
-
 impl TryFrom<u32> for SelectionKind {
-    type Error = UnknownKind;
+    type Error = UnknownNumber;
 
-    ghost try_from_gives = { λ number kind. kind ≡ selection_kind number };
+    ghost try_from_gives = { λ number kind. kind ≡ case_or_unknown number (selection_kind number) };
 
-    fn try_from(number: u32) -> Result<Self, UnknownKind> {
+    fn try_from(number: u32) -> Result<Self, UnknownNumber> {
         match number {
             1 => Ok(SelectionKind::Field),
             2 => Ok(SelectionKind::Spread),
             3 => Ok(SelectionKind::InlineFragment),
-            _ => Err(UnknownKind(number)),
+            _ => Err(UnknownNumber(number)),
         }
     }
 }
 
 impl TryFrom<u32> for DefinitionKind {
-    type Error = UnknownKind;
+    type Error = UnknownNumber;
 
-    ghost try_from_gives = { λ number kind. kind ≡ definition_kind number };
+    ghost try_from_gives = { λ number kind. kind ≡ case_or_unknown number (definition_kind number) };
 
-    fn try_from(number: u32) -> Result<Self, UnknownKind> {
+    fn try_from(number: u32) -> Result<Self, UnknownNumber> {
         match number {
             1 => Ok(DefinitionKind::Operation),
             2 => Ok(DefinitionKind::Fragment),
             3..=17 => Ok(DefinitionKind::TypeSystem),
-            _ => Err(UnknownKind(number)),
+            _ => Err(UnknownNumber(number)),
         }
     }
 }
-
-impl fmt::Display for UnknownKind {
-    fn fmt<W: fmt::Write>(&self, f: &mut fmt::Formatter<W>) -> fmt::Result {
-        write!(f, "there is no kind {}", self.0)
-    }
-}
-
-impl Error for UnknownKind {}

@@ -13,5 +13,5 @@ mod rows;
 pub use check::{MAX_DEFINITIONS, MAX_DEPTH, MAX_ROWS, check_sizes};
 pub use fault::DocumentFault;
 pub use handed::{Document, Needs, SelectionSet, SelectionStep};
-pub use kinds::{DefinitionKind, SelectionKind, UnknownKind};
+pub use kinds::{DefinitionKind, SelectionKind};
 pub use rows::{DefinitionRow, SelectionRow};

@@ -3,7 +3,7 @@ ghost use Rattle.std.specs.Prelude.{◌≡◌};
 ghost use Rattle.document.specs.Kinds.{selection_kind, definition_kind};
 ghost use Rattle.document.specs.Rows.{selection_of, selection_unnamed, selection_broken, selection_view, head_of, head_unnamed, head_broken, is_fragment, is_type_system, named_operation};
 
-use crate::kinds::{DefinitionKind, SelectionKind, UnknownKind};
+use crate::kinds::{DefinitionKind, SelectionKind};
 use layout::{Row, RowView};
 
 /// A definition: an operation (kind 1), a fragment (2), or a part of the type system (3 to 17).
@@ -39,10 +39,10 @@ pub struct SelectionRow {
 
 impl SelectionRow {
     /// What the selection is, if its kind is one.
-    pub fn selection_kind(&self) -> Result<SelectionKind, UnknownKind>
+    pub fn selection_kind(&self) -> Option<SelectionKind>
         ensures { result ≡ selection_kind self.now.kind }
     {
-        SelectionKind::try_from(self.kind)
+        SelectionKind::try_from(self.kind).ok()
     }
 
     // Whether the name is 0 although this kind of selection needs one.
@@ -50,7 +50,7 @@ impl SelectionRow {
         ensures { result ≡ selection_unnamed (selection_of self.now) }
     {
         match self.selection_kind() {
-            Ok(SelectionKind::Field | SelectionKind::Spread) => self.name == 0,
+            Some(SelectionKind::Field | SelectionKind::Spread) => self.name == 0,
             _ => false,
         }
     }
@@ -60,28 +60,28 @@ impl SelectionRow {
         ensures { result ≡ selection_broken (selection_of self.now) }
     {
         match self.selection_kind() {
-            Ok(SelectionKind::Field) => self.condition != 0 || self.condition_location != 0,
-            Ok(SelectionKind::Spread) => {
+            Some(SelectionKind::Field) => self.condition != 0 || self.condition_location != 0,
+            Some(SelectionKind::Spread) => {
                 self.alias != 0
                     || self.condition != 0
                     || self.arguments != 0
                     || self.name_location != 0
                     || self.condition_location != 0
             }
-            Ok(SelectionKind::InlineFragment) => {
+            Some(SelectionKind::InlineFragment) => {
                 self.name != 0 || self.alias != 0 || self.arguments != 0 || self.name_location != 0
             }
-            Err(_) => true,
+            None => true,
         }
     }
 }
 
 impl DefinitionRow {
     /// What the definition is, if its kind is one.
-    pub fn definition_kind(&self) -> Result<DefinitionKind, UnknownKind>
+    pub fn definition_kind(&self) -> Option<DefinitionKind>
         ensures { result ≡ definition_kind self.now.kind }
     {
-        DefinitionKind::try_from(self.kind)
+        DefinitionKind::try_from(self.kind).ok()
     }
 
     /// Whether a name is 0 that this kind of definition needs.
@@ -95,21 +95,21 @@ impl DefinitionRow {
     pub(crate) fn is_named_operation(&self) -> bool
         ensures { result ≡ named_operation (head_of self.now) }
     {
-        matches!(self.definition_kind(), Ok(DefinitionKind::Operation)) && self.name != 0
+        matches!(self.definition_kind(), Some(DefinitionKind::Operation)) && self.name != 0
     }
 
     /// Whether the definition is a fragment.
     pub(crate) fn is_fragment(&self) -> bool
         ensures { result ≡ is_fragment (head_of self.now) }
     {
-        matches!(self.definition_kind(), Ok(DefinitionKind::Fragment))
+        matches!(self.definition_kind(), Some(DefinitionKind::Fragment))
     }
 
     /// Whether the definition is one of the type system.
     pub(crate) fn is_type_system(&self) -> bool
         ensures { result ≡ is_type_system (head_of self.now) }
     {
-        matches!(self.definition_kind(), Ok(DefinitionKind::TypeSystem))
+        matches!(self.definition_kind(), Some(DefinitionKind::TypeSystem))
     }
 
     /// Whether a member that this kind of definition does not use is not 0, or there is no such kind.
@@ -117,11 +117,11 @@ impl DefinitionRow {
         ensures { result ≡ head_broken (head_of self.now) }
     {
         match self.definition_kind() {
-            Ok(DefinitionKind::Operation) => {
+            Some(DefinitionKind::Operation) => {
                 self.operation_type > 2 || self.condition != 0 || self.condition_location != 0
             }
-            Ok(DefinitionKind::Fragment) => self.operation_type != 0 || self.variables != 0,
-            Ok(DefinitionKind::TypeSystem) => {
+            Some(DefinitionKind::Fragment) => self.operation_type != 0 || self.variables != 0,
+            Some(DefinitionKind::TypeSystem) => {
                 self.operation_type != 0
                     || self.condition != 0
                     || self.variables != 0
@@ -129,7 +129,7 @@ impl DefinitionRow {
                     || self.name_location != 0
                     || self.condition_location != 0
             }
-            Err(_) => true,
+            None => true,
         }
     }
 }
@@ -140,7 +140,7 @@ impl Row for SelectionRow {
     fn view(&self) -> RowView {
         RowView {
             end: self.end,
-            leaf: matches!(self.selection_kind(), Ok(SelectionKind::Spread)),
+            leaf: matches!(self.selection_kind(), Some(SelectionKind::Spread)),
             unnamed: self.is_unnamed(),
             broken: self.is_broken(),
         }

@@ -3,7 +3,7 @@ ghost use Rattle.std.specs.Prelude.{◌≡◌};
 ghost use Rattle.document.specs.Rows.{selection_of};
 ghost use Rattle.selection_rules.specs.Settle.{found_field, settled};
 
-use document::SelectionRow;
+use document::{SelectionKind, SelectionRow};
 use schema::{FieldDefinition, FieldLookupError, Schema, TypeKind};
 
 /// What is wrong with a selection.
@@ -51,13 +51,13 @@ fn settle_found<S: Schema>(schema: &S, found: FieldDefinition, beneath: bool) ->
 pub fn settle<S: Schema>(schema: &S, around: u32, row: &SelectionRow, beneath: bool) -> Settled
     ensures { result ≡ settled (S.Schema.meaning schema.now) around (selection_of row.now) beneath }
 {
-    match row.kind {
-        1 => match schema.type_field(around, row.name) {
+    match row.selection_kind() {
+        Some(SelectionKind::Field) => match schema.type_field(around, row.name) {
             Ok(found) => settle_found(schema, found, beneath),
             Err(FieldLookupError::NoSuchField) => Settled::Faulty(SelectionFault::UnknownField),
             Err(FieldLookupError::NoSuchType) => Settled::Dropped,
         },
-        2 => Settled::Kept {
+        Some(SelectionKind::Spread) => Settled::Kept {
             place: 0,
             set_type: 0,
         },

@@ -29,7 +29,7 @@ fn fields_beneath(above: usize, row: &SelectionRow) -> usize
     ensures { result ≡ way above (selection_of row.now) }
 {
     match row.selection_kind() {
-        Ok(SelectionKind::Field) => above + 1,
+        Some(SelectionKind::Field) => above + 1,
         _ => above,
     }
 }
