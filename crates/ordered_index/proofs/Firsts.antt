@@ -1,7 +1,6 @@
 -- Where a key is located is the place of the first key that equals it.
 use Rattle.std.proofs.Common.{◌≡◌, ℕ, zero, suc, ◌+◌, ◌<◌, ◌≤◌, Bool, true, false, cond, List, [], ◌∷◌, ◌++◌, map, length, get_or, take, Some, None, Option, sym, refl, ap, ◌∙◌, ⊎_elim, arith}
-use native.Mathlib.Nat.{min-le_right}
-use Rattle.std.proofs.lemmas.List.{take_all, map_more, length-map, length-take}
+use Rattle.std.proofs.lemmas.List.{take_all, map_more, length-map}
 use Rattle.std.proofs.lemmas.Bool.{cond-true, cond-false, cases_Bool}
 use Rattle.ordered_index.specs.Firsts.{first_place, place_of}
 use Rattle.ordered_index.specs.Sound.{Located, Only, keys_of}
@@ -38,18 +37,16 @@ located_first equal keys q (Some n) only =
     (λ differs. differs)
     (cases_Bool (equal (get_or keys m d) q))))
 
--- whether a key came before, as the index of the entries before tells it
-pub came_before : {E K : Type 0} (keyed : E → K) (equal : K → K → Bool) (count : ℕ) (entries : List E) (q : K) (r : Option ℕ)
-    → Located equal (keys_of keyed count entries) q r → first_place (λ e. equal (keyed e) q) (take count entries) 0 ≡ r
-came_before keyed equal count entries q r here =
-    sym (first_map keyed (λ k. equal k q) (take count entries) 0) ∙ sym (located_first equal (keys_of keyed count entries) q r here)
+-- the same among entries: where their index locates a key is the place of the first entry that has it
+pub located_place : {E K : Type 0} (keyed : E → K) (equal : K → K → Bool) (entries : List E) (q : K) (r : Option ℕ)
+    → Located equal (map keyed entries) q r → r ≡ first_place (λ e. equal (keyed e) q) entries 0
+located_place keyed equal entries q r here =
+    located_first equal (map keyed entries) q r here ∙ first_map keyed (λ k. equal k q) entries 0
 
--- the same over all entries
-pub place_in : {E K : Type 0} (keyed : E → K) (equal : K → K → Bool) (entries : List E) (q : K) (r : Option ℕ)
-    → Located equal (keys_of keyed (length entries) entries) q r → r ≡ first_place (λ e. equal (keyed e) q) entries 0
-place_in keyed equal entries q r here =
-    sym (came_before keyed equal (length entries) entries q r here)
-    ∙ ap (λ es. first_place (λ e. equal (keyed e) q) es 0) (take_all (length entries) entries (omega arith))
+-- a place that is located is one of the entries
+pub located_inside : {E K : Type 0} (keyed : E → K) (equal : K → K → Bool) (entries : List E) (q : K) (n : ℕ)
+    → Only equal (map keyed entries) q n → n < length entries
+located_inside keyed equal entries q n only = omega (arith, only.stands.inside, length-map entries keyed)
 
 -- the keys of one entry more
 pub keys_more : {E K : Type 0} (keyed : E → K) (entries : List E) (i : ℕ) (d : E) → i < length entries
@@ -59,9 +56,3 @@ keys_more keyed entries i d low = sym (map_more keyed entries i d low)
 -- the keys of all entries
 pub keys_all : {E K : Type 0} (keyed : E → K) (entries : List E) (n : ℕ) → length entries ≤ n → keys_of keyed n entries ≡ map keyed entries
 keys_all keyed entries n all = ap (map keyed) (take_all n entries all)
-
--- a place that is located is one of the entries
-pub located_inside : {E K : Type 0} (keyed : E → K) (equal : K → K → Bool) (count : ℕ) (entries : List E) (q : K) (n : ℕ)
-    → Only equal (keys_of keyed count entries) q n → n < length entries
-located_inside keyed equal count entries q n only =
-    omega (arith, only.stands.inside, length-map (take count entries) keyed, length-take count entries, min-le_right count (length entries))

@@ -4,6 +4,7 @@ use Rattle.std.proofs.lemmas.List.{take_more, length-take-le, length-replicate}
 use Rattle.table_schema.specs.declared.rows.FieldRow.{FieldRow}
 use Rattle.std.proofs.lemmas.Bool.{false≢true, and_from, eq-eqb}
 use Rattle.ordered_index.specs.Firsts.{first_place}
+use Rattle.ordered_index.specs.Keys.{same_field}
 use Rattle.schema.specs.declared.answers.FieldLookupError.TheVariants.{NoSuchType}
 use Rattle.schema.specs.Meta.{defined}
 use Rattle.table_schema.specs.declared.rows.TypeRow.{TypeRow}
@@ -15,9 +16,10 @@ use Rattle.table_schema.specs.Meaning.{no_field, named, owns, known_type, kind_t
 use Rattle.refusal.specs.Firsts.{verdict_of}
 use Rattle.table_schema.specs.Verdict.{owns_fields, field_fault_at, types_fault, fields_fault, rows_fault, over_limit, zeros, empty_index, index_fault}
 use Rattle.table_schema.specs.Table.{schema_fault}
-use Rattle.table_schema.specs.Kept.{no_entry, holds, entry_there, kept_field, entry_of, entries_from, OwnersKnown}
+use Rattle.table_schema.specs.Found.{first_with}
+use Rattle.table_schema.specs.Kept.{no_entry, entry_told, kept_field, entry_of, entries_from, OwnersKnown}
 use Rattle.refusal.proofs.Firsts.{no_fault, or_else_none}
-use Rattle.table_schema.proofs.Founds.{first_at}
+use Rattle.table_schema.proofs.Founds.{first_at, with_none, with_some}
 
 entries_push : (k : ℕ) (rows : List FieldRow) (row : FieldRow) → entries_from k (rows ++ row ∷ []) ≡ entries_from k rows ++ entry_of (k + length rows + 1) row ∷ []
 entries_push k [] row = ap (λ n. entry_of n row ∷ []) (omega arith)
@@ -49,21 +51,23 @@ entries_length k [] = refl
 entries_length k (row ∷ rows) = ap suc (entries_length (k + 1) rows)
 
 -- the first entry of a field stands where its first row stands
-entries_first : (k j t f : ℕ) (rows : List FieldRow) → first_place (holds (field_key t f)) (entries_from k rows) j ≡ first_place (owns t f) rows j
+entries_first : (k j t f : ℕ) (rows : List FieldRow) → first_place (λ e. same_field (entry_key e) (field_key t f)) (entries_from k rows) j ≡ first_place (owns t f) rows j
 entries_first k j t f [] = refl
 entries_first k j t f (row ∷ rows) = ap (λ rest. cond (owns t f row) (Some j) rest) (entries_first (k + 1) (j + 1) t f rows)
 
-there_same : (rows : List FieldRow) (t f : ℕ) (at : Option ℕ) → first_place (owns t f) rows 0 ≡ at → entry_there (entries_from 0 rows) at ≡ field_there rows at
-there_same rows t f None is = refl
-there_same rows t f (Some i) is =
+told_same : (rows : List FieldRow) (t f : ℕ) (at : Option ℕ) → first_place (owns t f) rows 0 ≡ at
+    → entry_told (first_with entry_key same_field (field_key t f) (entries_from 0 rows)) ≡ field_there rows at
+told_same rows t f None is =
+    ap entry_told (with_none entry_key same_field (field_key t f) (entries_from 0 rows) (entries_first 0 0 t f rows ∙ is))
+told_same rows t f (Some i) is =
     let low = (first_at (owns t f) rows i no_field is).0 in
-    ap (λ e. Ok e.definition) (entry_at 0 rows i low) ∙ ap (λ n. Ok (defined n (get_or rows i no_field).inner)) (omega arith)
+    ap entry_told (with_some entry_key same_field (field_key t f) (entries_from 0 rows) i no_entry (entries_first 0 0 t f rows ∙ is))
+    ∙ ap (λ e. Ok e.definition) (entry_at 0 rows i low) ∙ ap (λ n. Ok (defined n (get_or rows i no_field).inner)) (omega arith)
 
 -- what the entries answer is what the rows mean
-pub kept_means : (types : List TypeRow) (rows : List FieldRow) (t f : ℕ) → kept_field types (entries_from 0 rows) t f ≡ field_of types rows t f
-kept_means types rows t f =
-    ap (λ at. cond (known_type types t) (entry_there (entries_from 0 rows) at) (Err NoSuchType)) (entries_first 0 0 t f rows)
-    ∙ ap (λ x. cond (known_type types t) x (Err NoSuchType)) (there_same rows t f (first_place (owns t f) rows 0) refl)
+pub kept_means : (types : List TypeRow) (rows : List FieldRow) → kept_field types (entries_from 0 rows) ≡ field_of types rows
+kept_means types rows =
+    λ i t f. cond (known_type types t) (told_same rows t f (first_place (owns t f) rows 0) refl i) (Err NoSuchType)
 
 last_none : (a b c : Bool) → cond a (Some NameMissing) (cond b (Some Repeated) (cond c None (Some OwnerUnfit))) ≡ None → c ≡ true
 last_none true b c is = let z : ◌≡◌ {A = ℕ} 0 1 = cc in absurd (omega arith)

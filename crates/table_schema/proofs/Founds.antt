@@ -1,33 +1,20 @@
 -- What is found through an index, and what the first place that is found tells.
-use Rattle.std.proofs.Common.{◌≡◌, ℕ, suc, ◌+◌, ◌<◌, Bool, true, false, List, [], ◌∷◌, map, length, get_or, Some, None, Option, sym, refl, ap, ◌∙◌, ⊎_elim, arith}
-use Rattle.std.proofs.lemmas.Bool.{cond-true, cond-false, cases_Bool, eqb-true, eq-eqb, false≢true, and_parts}
+use Rattle.std.proofs.Common.{◌≡◌, ℕ, suc, ◌+◌, ◌<◌, Bool, true, false, List, [], ◌∷◌, map, length, get_or, is_some, Some, None, Option, IfSome, Bor, ltb, sym, refl, ap, ◌∙◌, ⊎_elim, arith}
+use Rattle.std.specs.Option.{option_copied}
+use Rattle.std.proofs.lemmas.Bool.{cond-true, cond-false, false≢true, lt-ltb, cases_Bool, eqb-true, and_parts}
 use Rattle.ordered_index.specs.Firsts.{first_place}
-use Rattle.ordered_index.specs.Sound.{Sound, keys_of}
+use Rattle.ordered_index.specs.Sound.{Sound}
 use Rattle.ordered_index.specs.Probing.{probe_for, found_at}
 use Rattle.ordered_index.specs.Law.{Lawful}
-use Rattle.ordered_index.proofs.Firsts.{keys_all, first_map, located_first}
+use Rattle.ordered_index.specs.Keys.{same_field}
+use Rattle.ordered_index.proofs.Firsts.{located_place}
 use Rattle.ordered_index.proofs.Enters.{located}
 use Rattle.table_schema.specs.declared.rows.TypeRow.{TypeRow}
 use Rattle.table_schema.specs.declared.rows.FieldEntry.{FieldEntry}
-use Rattle.table_schema.specs.Keys.{field_key}
+use Rattle.table_schema.specs.Keys.{field_key, entry_key}
+use Rattle.table_schema.specs.Found.{place_with, first_with, KeysFound}
 use Rattle.table_schema.specs.Meaning.{known_type}
-use Rattle.table_schema.specs.Kept.{same_place, holds, no_entry, OwnersKnown}
-
-pub same_place_is : (a b : Option ℕ) → same_place a b ≡ true → a ≡ b
-same_place_is None None is = refl
-same_place_is None (Some n) is = absurd (false≢true is)
-same_place_is (Some m) None is = absurd (false≢true is)
-same_place_is (Some m) (Some n) is = ap Some (eqb-true m n is)
-
--- a search over all entries, from the answer that the index is known to give
-pub found_in : {E K : Type 0} (keyed : E → K) (equal : K → K → Bool) (digest : K → ℕ) (entries es : List E) (slots ss : List ℕ) (q : K) (r at : Option ℕ)
-    → es ≡ entries → ss ≡ slots → r ≡ found_at (probe_for equal digest (keys_of keyed (length es) es) ss q)
-    → same_place (found_at (probe_for equal digest (map keyed entries) slots q)) at ≡ true → r ≡ at
-found_in keyed equal digest entries es slots ss q r at same_entries same-slots answer known =
-    answer
-    ∙ ap (λ keys. found_at (probe_for equal digest keys ss q)) (keys_all keyed es (length es) (omega arith) ∙ ap (map keyed) same_entries)
-    ∙ ap (λ s. found_at (probe_for equal digest (map keyed entries) s q)) same-slots
-    ∙ same_place_is _ at known
+use Rattle.table_schema.specs.Kept.{no_entry, OwnersKnown}
 
 -- what is found lies within, and passes
 pub first_hit : {X : Type 0} (p : X → Bool) (xs : List X) (k n : ℕ) (d : X) → first_place p xs k ≡ Some n
@@ -51,24 +38,103 @@ first_at p xs n d is =
     let at : hit.0 ≡ n = omega (arith, hit.1) in
     (omega (arith, hit.2), ap (λ m. p (get_or xs m d)) (sym at) ∙ hit.3)
 
--- the owner of a field that is found is known
-pub owner_known : (types : List TypeRow) (entries : List FieldEntry) (t f n : ℕ) → OwnersKnown types entries → first_place (holds (field_key t f)) entries 0 ≡ Some n → known_type types t ≡ true
-owner_known types entries t f n owners is =
-    let hit = first_at (holds (field_key t f)) entries n no_entry is in
-    let both = and_parts _ _ hit.1 in
-    ap (known_type types) (sym (eqb-true _ t both.0)) ∙ owners n hit.0
-
-place_same : (a : Option ℕ) → same_place a a ≡ true
-place_same None = refl
-place_same (Some n) = eq-eqb n n refl
-
--- a sound index of all entries answers with the place of the first entry that has the key
+-- a sound index of the entries answers with the place of the first entry that has the key
 pub finds_all : {E K : Type 0} (keyed : E → K) (equal : K → K → Bool) (digest : K → ℕ) → Lawful equal digest → (entries : List E) (slots : List ℕ)
-    → Sound equal digest (map keyed entries) slots
-    → (q : K) → same_place (found_at (probe_for equal digest (map keyed entries) slots q)) (first_place (λ e. equal (keyed e) q) entries 0) ≡ true
+    → Sound equal digest (map keyed entries) slots → KeysFound keyed equal digest entries slots
 finds_all keyed equal digest laws entries slots sound q =
     let keys = map keyed entries in
-    let found = found_at (probe_for equal digest keys slots q) in
-    let is : found ≡ first_place (λ e. equal (keyed e) q) entries 0 =
-    located_first equal keys q found (located equal digest laws keys slots q sound) ∙ first_map keyed (λ k. equal k q) entries 0 in
-    ap (λ at. same_place at (first_place (λ e. equal (keyed e) q) entries 0)) is ∙ place_same (first_place (λ e. equal (keyed e) q) entries 0)
+    located_place keyed equal entries q (found_at (probe_for equal digest keys slots q)) (located equal digest laws keys slots q sound)
+
+-- a search through slots that are known to find every key
+pub found_place : {E K : Type 0} (keyed : E → K) (equal : K → K → Bool) (digest : K → ℕ) (entries es : List E) (slots ss : List ℕ) (q : K) (r : Option ℕ)
+    → KeysFound keyed equal digest entries slots → es ≡ entries → ss ≡ slots → r ≡ found_at (probe_for equal digest (map keyed es) ss q)
+    → place_with keyed equal q entries ≡ r
+found_place keyed equal digest entries es slots ss q r found same-entries same-slots answer =
+    sym (answer
+    ∙ ap (λ x. found_at (probe_for equal digest (map keyed x) ss q)) same-entries
+    ∙ ap (λ s. found_at (probe_for equal digest (map keyed entries) s q)) same-slots
+    ∙ found q)
+
+-- the first entry that has the key stands at the first place that has it
+module _ {E K : Type 0} (keyed : E → K) (equal : K → K → Bool) (q : K) where
+  abbrev has : E → Bool
+  has e = equal (keyed e) q
+
+  none_from : (entries : List E) (k : ℕ) → first_place has entries k ≡ None → first_with keyed equal q entries ≡ None
+  none_from [] k is = refl
+  none_from (e ∷ es) k is =
+      ⊎_elim
+      (λ (here : has e ≡ true). let bad : Some k ≡ None = sym (cond-true _ _ _ here) ∙ is in let z : ◌≡◌ {A = ℕ} 0 1 = cc in absurd (omega arith))
+      (λ (past : has e ≡ false). cond-false _ _ _ past ∙ none_from es (k + 1) (sym (cond-false _ _ _ past) ∙ is))
+      (cases_Bool (has e))
+
+  some_from : (entries : List E) (k n : ℕ) (d : E) → first_place has entries k ≡ Some n
+      → (m : ℕ) × (n ≡ k + m) × (first_with keyed equal q entries ≡ Some (get_or entries m d))
+  some_from [] k n d is = let z : ◌≡◌ {A = ℕ} 0 1 = cc in absurd (omega arith)
+  some_from (e ∷ es) k n d is =
+      ⊎_elim
+      (λ (here : has e ≡ true).
+      let found : Some k ≡ Some n = sym (cond-true _ _ _ here) ∙ is in
+      let at : k ≡ n = cc in
+      (0, omega arith, cond-true _ _ _ here))
+      (λ (past : has e ≡ false).
+      let later = some_from es (k + 1) n d (sym (cond-false _ _ _ past) ∙ is) in
+      (suc later.0, omega (arith, later.1), cond-false _ _ _ past ∙ later.2))
+      (cases_Bool (has e))
+
+  pub with_none : (entries : List E) → place_with keyed equal q entries ≡ None → first_with keyed equal q entries ≡ None
+  with_none entries is = none_from entries 0 is
+
+  pub with_some : (entries : List E) (n : ℕ) (d : E) → place_with keyed equal q entries ≡ Some n → first_with keyed equal q entries ≡ Some (get_or entries n d)
+  with_some entries n d is =
+      let hit = some_from entries 0 n d is in
+      let at : hit.0 ≡ n = omega (arith, hit.1) in
+      hit.2 ∙ ap (λ m. Some (get_or entries m d)) at
+
+  -- an entry that is read at that place
+  pub read_at : (entries es : List E) (n : ℕ) (r : Option (Bor E)) → es ≡ entries → place_with keyed equal q entries ≡ Some n
+      → is_some r ≡ ltb n (length es) → IfSome r (λ e. e.now ≡ get_or es n e.now) → option_copied r ≡ first_with keyed equal q entries
+  read_at [] es n None same at inside read = let z : ◌≡◌ {A = ℕ} 0 1 = cc in absurd (omega arith)
+  read_at (x ∷ xs) es n None same at inside read =
+      let low = (first_at has (x ∷ xs) n x at).0 in
+      absurd (false≢true (inside ∙ lt-ltb n (length es) (omega (arith, low, ap length same))))
+  read_at entries es n (Some e) same at inside read =
+      ap Some (read ∙ ap (λ l. get_or l n e.now) same) ∙ sym (with_some entries n e.now at)
+
+  -- the other way: from the first entry to its place
+  place_none : (entries : List E) (at : Option ℕ) → place_with keyed equal q entries ≡ at → first_with keyed equal q entries ≡ None → at ≡ None
+  place_none entries None is none = refl
+  place_none [] (Some n) is none = sym is
+  place_none (e ∷ es) (Some n) is none =
+      let found = sym none ∙ with_some (e ∷ es) n e is in let z : ◌≡◌ {A = ℕ} 0 1 = cc in absurd (omega arith)
+
+  place_some : (entries : List E) (at : Option ℕ) (e d : E) → place_with keyed equal q entries ≡ at → first_with keyed equal q entries ≡ Some e
+      → (n : ℕ) × (at ≡ Some n) × (get_or entries n d ≡ e)
+  place_some entries None e d is some = let none = sym (with_none entries is) ∙ some in let z : ◌≡◌ {A = ℕ} 0 1 = cc in absurd (omega arith)
+  place_some entries (Some n) e d is some =
+      let both : Some (get_or entries n d) ≡ Some e = sym (with_some entries n d is) ∙ some in
+      (n, refl, cc)
+
+  pub none_place : (entries : List E) → first_with keyed equal q entries ≡ None → place_with keyed equal q entries ≡ None
+  none_place entries none = place_none entries (place_with keyed equal q entries) refl none
+
+  pub some_place : (entries : List E) (e d : E) → first_with keyed equal q entries ≡ Some e
+      → (n : ℕ) × (place_with keyed equal q entries ≡ Some n) × (get_or entries n d ≡ e)
+  some_place entries e d some = place_some entries (place_with keyed equal q entries) e d refl some
+
+  -- whether there is one
+  there : (entries : List E) (r : Option E) → first_with keyed equal q entries ≡ r → is_some r ≡ is_some (place_with keyed equal q entries)
+  there entries None is = ap is_some (sym (none_place entries is))
+  there entries (Some e) is = ap is_some (sym (some_place entries e e is).1)
+
+  pub any_with : (entries : List E) → is_some (first_with keyed equal q entries) ≡ is_some (place_with keyed equal q entries)
+  any_with entries = there entries (first_with keyed equal q entries) refl
+
+-- the owner of a field that is found is known
+pub owner_known : (types : List TypeRow) (entries : List FieldEntry) (t f : ℕ) (e : FieldEntry) → OwnersKnown types entries
+    → first_with entry_key same_field (field_key t f) entries ≡ Some e → known_type types t ≡ true
+owner_known types entries t f e owners is =
+    let at = some_place entry_key same_field (field_key t f) entries e no_entry is in
+    let hit = first_at (λ x. same_field (entry_key x) (field_key t f)) entries at.0 no_entry at.1 in
+    let both = and_parts _ _ hit.1 in
+    ap (known_type types) (sym (eqb-true _ t both.0)) ∙ owners at.0 hit.0

@@ -1,6 +1,7 @@
--- The refusals in numbers: number, layer and row of each fault.
-use Rattle.std.specs.Prelude.{ℕ}
+-- The refusal for each fault: its reason, its layer and its row.
 use Rattle.refusal.specs.declared.Layer.TheVariants.{Schema}
+use Rattle.refusal.specs.declared.Reason.{Reason}
+use Rattle.refusal.specs.declared.Reason.TheVariants as reason
 use Rattle.refusal.specs.declared.Refusal.{Refusal}
 use Rattle.refusal.specs.Layers.{refused}
 use Rattle.table_schema.specs.declared.fault.RowFault.{RowFault}
@@ -10,21 +11,21 @@ use Rattle.table_schema.specs.declared.fault.SchemaFault.TheVariants.{OverLimit,
 use Rattle.table_schema.specs.declared.fault.MakeFault.{MakeFault}
 use Rattle.table_schema.specs.declared.fault.MakeFault.TheVariants.{Rows, NoMemory}
 
--- The number of what is wrong with a row.
-abbrev pub row_fault_number : RowFault → ℕ
-row_fault_number NameMissing = 5
-row_fault_number KindUnknown = 6
-row_fault_number Repeated = 7
-row_fault_number OwnerUnfit = 8
+-- The reason that is what is wrong with a row.
+abbrev pub row_reason : RowFault → Reason
+row_reason NameMissing = reason.NameMissing
+row_reason KindUnknown = reason.KindUnknown
+row_reason Repeated = reason.Repeated
+row_reason OwnerUnfit = reason.OwnerUnfit
 
--- Why rows are refused, in numbers: all of them are faults of the schema's layer.
+-- Why rows are refused: all of them are faults of the schema's layer.
 abbrev pub schema_refusal : SchemaFault → Refusal
-schema_refusal OverLimit = refused 1 Schema 0
-schema_refusal SlotsUnfit = refused 15 Schema 0
-schema_refusal (InTypes fault row) = refused (row_fault_number fault) Schema row
-schema_refusal (InFields fault row) = refused (row_fault_number fault) Schema row
+schema_refusal OverLimit = refused reason.SchemaOverLimit Schema 0
+schema_refusal SlotsUnfit = refused reason.IndexUnfit Schema 0
+schema_refusal (InTypes fault row) = refused (row_reason fault) Schema row
+schema_refusal (InFields fault row) = refused (row_reason fault) Schema row
 
--- Why no schema was made, in numbers: want of memory has a number of its own.
+-- Why no schema was made: want of memory has a reason of its own.
 abbrev pub make_refusal : MakeFault → Refusal
 make_refusal (Rows fault) = schema_refusal fault
-make_refusal NoMemory = refused 26 Schema 0
+make_refusal NoMemory = refused reason.NoMemory Schema 0

@@ -8,9 +8,11 @@ use Rattle.schema.specs.declared.answers.FieldDefinition.{FieldDefinition}
 use Rattle.schema.specs.declared.answers.FieldLookupError.{FieldLookupError}
 use Rattle.schema.specs.declared.answers.FieldLookupError.TheVariants.{NoSuchType, NoSuchField}
 use Rattle.schema.specs.Numbers.{kind_of_number}
+use Rattle.schema.specs.Meaning.{Meaning}
 use Rattle.schema.specs.Meta.{defined}
 use Rattle.table_schema.specs.declared.rows.TypeRow.{TypeRow}
 use Rattle.table_schema.specs.declared.rows.FieldRow.{FieldRow}
+use Rattle.table_schema.specs.declared.rows.RootTypes.{RootTypes}
 
 abbrev pub no_type : TypeRow
 no_type = record { name = 0; kind = 0 }
@@ -52,7 +54,16 @@ abbrev pub name_or_none : ℕ → Option ℕ
 name_or_none n = cond (n == 0) None (Some n)
 
 -- the root types, 0 for none
-abbrev pub root_of : ℕ → ℕ → ℕ → OperationType → Option ℕ
-root_of query mutation subscription Query = name_or_none query
-root_of query mutation subscription Mutation = name_or_none mutation
-root_of query mutation subscription Subscription = name_or_none subscription
+abbrev pub root_of : RootTypes → OperationType → Option ℕ
+root_of roots Query = name_or_none roots.query
+root_of roots Mutation = name_or_none roots.mutation
+root_of roots Subscription = name_or_none roots.subscription
+
+-- what the rows mean as a schema
+abbrev pub rows_meaning : List TypeRow → List FieldRow → RootTypes → Meaning
+rows_meaning types fields roots = record {
+  root = root_of roots;
+  known = known_type types;
+  sort = kind_of types;
+  field = field_of types fields;
+}

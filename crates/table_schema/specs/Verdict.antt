@@ -17,6 +17,10 @@ use Rattle.table_schema.specs.Meaning.{no_type, no_field, owns, known_type, kind
 abbrev pub over_limit : List TypeRow → List FieldRow → Bool
 over_limit types fields = nat_lt 1024 (length types) || nat_lt 4096 (length fields)
 
+-- what is wrong with a row by whether its key came before
+abbrev pub repeated : Bool → Option RowFault
+repeated came = cond came (Some Repeated) None
+
 -- what is wrong with a type that comes after others: its name is 0, its kind is not 1 to 6, it came before
 abbrev pub type_fault : List TypeRow → TypeRow → Option RowFault
 type_fault before row =

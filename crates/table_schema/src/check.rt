@@ -1,16 +1,17 @@
 // Checks rows and indexes them, in slots that the caller lends: the first fault, or a sound index of both tables.
-ghost use Rattle.std.specs.Prelude.{◌≡◌, ℕ, ◌+◌, ◌<◌, ◌≤◌, [], map, length, IfNone, MatchResult};
+ghost use Rattle.std.specs.Prelude.{◌≡◌, ◌<◌, ◌≤◌, [], ◌∷◌, ◌++◌, map, length, is_some, IfOk, MatchResult};
 ghost use Rattle.refusal.specs.Firsts.{verdict_of};
 ghost use Rattle.ordered_index.specs.Slots.{limit};
-ghost use Rattle.ordered_index.specs.Sound.{Sound, keys_of};
+ghost use Rattle.ordered_index.specs.Sound.{Sound};
 ghost use Rattle.ordered_index.specs.Keys.{same_name, name_hash, same_field, field_hash};
 ghost use Rattle.table_schema.specs.Keys.{type_key, row_key};
-ghost use Rattle.table_schema.specs.Verdict.{type_fault_at, field_fault_at, types_fault, fields_fault, rows_fault, empty_index, index_fault, owns_fields};
+ghost use Rattle.table_schema.specs.Found.{place_with, KeysFound};
+ghost use Rattle.table_schema.specs.Verdict.{type_fault, field_fault, types_fault, fields_fault, rows_fault, empty_index, index_fault, owns_fields, repeated};
 ghost use Rattle.table_schema.specs.Meaning.{kind_of};
 
 use crate::fault::{RowFault, SchemaFault};
 use crate::rows::{FieldRow, SchemaRows, TypeRow};
-use ordered_index::{Entered, Entry, empty, enter, find};
+use ordered_index::{Entered, Entry, Key, empty, enter, find};
 use schema::TypeKind;
 
 // How many types and fields a schema holds, and the slots of the index of each: twice as many.
@@ -26,53 +27,53 @@ pub const FIELD_SLOTS: usize = 8192;
 fn is_empty_index(slots: &[u32], size: usize) -> bool
     ensures { result ≡ empty_index size slots.now }
 {
-    if slots.len() != size {
-        return false;
-    }
-    for s in slots {
-        if *s != 0 {
-            return false;
-        }
-    }
-    true
+    slots.len() == size && slots.iter().all(|s| *s == 0)
 }
 
-// Enters the type at place i into the index of those before it, and tells what is wrong with it, if anything is.
-fn enter_type(types: &[TypeRow], i: usize, slots: &mut [u32]) -> Option<RowFault>
-    requires inside { i < length types.now }
-    requires room { i < limit slots.old }
-    requires sound { Sound same_name name_hash (keys_of type_key i types.now) slots.old }
-    ensures fault { result ≡ type_fault_at types.now i }
-    ensures sound { IfNone result (Sound same_name name_hash (keys_of type_key (i + 1) types.now) slots.new) }
+// Enters the key of a row into the index of the rows before it, unless one of them has it.
+fn enter_new<E: Entry>(before: &[E], slots: &mut [u32], key: &E::Of) -> Result<(), RowFault>
+    requires room { length before.now < limit slots.old }
+    requires sound { Sound E.Of.eq E.Of.digest (map E.keyed before.now) slots.old }
+    ensures fault { result ≡ verdict_of (repeated (is_some (place_with E.keyed E.Of.eq key.now before.now))) }
+    ensures sound { IfOk result (λ _. Sound E.Of.eq E.Of.digest (map E.keyed before.now ++ key.now ∷ []) slots.new) }
 {
-    let row = types[i];
-    if row.name == 0 {
-        return Some(RowFault::NameMissing);
-    }
-    if TypeKind::from_number(row.kind).is_none() {
-        return Some(RowFault::KindUnknown);
-    }
-    match enter(types, i, slots, &row.name) {
-        Entered::Added(_) => None,
-        Entered::Present(_) => Some(RowFault::Repeated),
+    match enter(before, slots, key) {
+        Entered::Added(_) => Ok(()),
+        Entered::Present(_) => Err(RowFault::Repeated),
         Entered::Full => unreachable(),
     }
 }
 
+// Enters the type into the index of those before it, unless something is wrong with it.
+fn enter_type(row: TypeRow, before: &[TypeRow], slots: &mut [u32]) -> Result<(), RowFault>
+    requires room { length before.now < limit slots.old }
+    requires sound { Sound same_name name_hash (map type_key before.now) slots.old }
+    ensures fault { result ≡ verdict_of (type_fault before.now row) }
+    ensures sound { IfOk result (λ _. Sound same_name name_hash (map type_key before.now ++ type_key row ∷ []) slots.new) }
+{
+    if row.name == 0 {
+        return Err(RowFault::NameMissing);
+    }
+    if TypeKind::try_from(row.kind).is_err() {
+        return Err(RowFault::KindUnknown);
+    }
+    enter_new(before, slots, &row.name)
+}
+
 // The first fault of the types, with its row; or none, and the slots are an index of them.
-fn index_types(types: &[TypeRow], slots: &mut [u32]) -> Option<SchemaFault>
+fn index_types(types: &[TypeRow], slots: &mut [u32]) -> Result<(), SchemaFault>
     requires few { length types.now ≤ 1024 }
     requires size { length slots.old ≡ 2048 }
     requires fresh { Sound same_name name_hash [] slots.old }
-    ensures fault { result ≡ types_fault types.now }
-    ensures sound { IfNone result (Sound same_name name_hash (map type_key types.now) slots.new) }
+    ensures fault { result ≡ verdict_of (types_fault types.now) }
+    ensures sound { IfOk result (λ _. Sound same_name name_hash (map type_key types.now) slots.new) }
 {
-    for i in 0..types.len() {
-        if let Some(fault) = enter_type(types, i, slots) {
-            return Some(SchemaFault::InTypes(fault, (i + 1) as u32));
+    for (i, row) in types.iter().enumerate() {
+        if let Err(fault) = enter_type(*row, &types[..i], slots) {
+            return Err(SchemaFault::InTypes(fault, (i + 1) as u32));
         }
     }
-    None
+    Ok(())
 }
 
 // Whether types of this kind own fields.
@@ -82,68 +83,67 @@ fn owns_fields(kind: Option<TypeKind>) -> bool
     matches!(kind, Some(TypeKind::Object | TypeKind::Interface))
 }
 
-// Whether the type owns fields: it is one of the rows, and an object or an interface.
-fn is_owner(types: &[TypeRow], slots: &[u32], owner: u32) -> bool
-    requires sound { Sound same_name name_hash (map type_key types.now) slots.now }
-    ensures { result ≡ owns_fields (kind_of types.now owner) }
-{
-    match find(types, types.len(), slots, &owner) {
-        Some(i) => owns_fields(TypeKind::from_number(types[i].kind)),
-        None => false,
+// The types of a schema beside slots that find each of them by its name.
+#[derive(Clone, Copy)]
+struct FoundTypes<'a> {
+    rows: &'a [TypeRow],
+    slots: &'a [u32],
+    ghost found: { KeysFound type_key same_name name_hash rows.now slots.now },
+}
+
+impl FoundTypes<'_> {
+    // Whether the type owns fields: it is one of the rows, and an object or an interface.
+    fn is_owner(&self, owner: u32) -> bool
+        ensures { result ≡ owns_fields (kind_of self.now.rows.now owner) }
+    {
+        match find(self.rows, self.slots, &owner) {
+            Some(i) => owns_fields(TypeKind::try_from(self.rows[i].kind).ok()),
+            None => false,
+        }
     }
 }
 
-// Enters the field at place i into the index of those before it, and tells what is wrong with it, if anything is.
+// Enters the field into the index of those before it, unless something is wrong with it.
 fn enter_field(
-    types: &[TypeRow],
-    type_slots: &[u32],
-    fields: &[FieldRow],
-    i: usize,
+    row: FieldRow,
+    before: &[FieldRow],
+    types: &FoundTypes<'_>,
     slots: &mut [u32],
-) -> Option<RowFault>
-    requires inside { i < length fields.now }
-    requires room { i < limit slots.old }
-    requires types { Sound same_name name_hash (map type_key types.now) type_slots.now }
-    requires sound { Sound same_field field_hash (keys_of row_key i fields.now) slots.old }
-    ensures fault { result ≡ field_fault_at types.now fields.now i }
-    ensures sound { IfNone result (Sound same_field field_hash (keys_of row_key (i + 1) fields.now) slots.new) }
+) -> Result<(), RowFault>
+    requires room { length before.now < limit slots.old }
+    requires sound { Sound same_field field_hash (map row_key before.now) slots.old }
+    ensures fault { result ≡ verdict_of (field_fault types.now.rows.now before.now row) }
+    ensures sound { IfOk result (λ _. Sound same_field field_hash (map row_key before.now ++ row_key row ∷ []) slots.new) }
 {
-    let row = fields[i];
     if row.owner == 0 || row.name == 0 || row.inner == 0 {
-        return Some(RowFault::NameMissing);
+        return Err(RowFault::NameMissing);
     }
-    match enter(fields, i, slots, &row.key()) {
-        Entered::Added(_) => {}
-        Entered::Present(_) => return Some(RowFault::Repeated),
-        Entered::Full => unreachable(),
-    }
-    if is_owner(types, type_slots, row.owner) {
-        None
+    enter_new(before, slots, &row.key())?;
+    if types.is_owner(row.owner) {
+        Ok(())
     } else {
-        Some(RowFault::OwnerUnfit)
+        Err(RowFault::OwnerUnfit)
     }
 }
 
 // The first fault of the fields, with its row; or none, and the slots are an index of them.
 fn index_fields(
-    types: &[TypeRow],
-    type_slots: &[u32],
     fields: &[FieldRow],
+    types: &FoundTypes<'_>,
     slots: &mut [u32],
-) -> Option<SchemaFault>
+) -> Result<(), SchemaFault>
     requires few { length fields.now ≤ 4096 }
     requires size { length slots.old ≡ 8192 }
-    requires types { Sound same_name name_hash (map type_key types.now) type_slots.now }
     requires fresh { Sound same_field field_hash [] slots.old }
-    ensures fault { result ≡ fields_fault types.now fields.now }
-    ensures sound { IfNone result (Sound same_field field_hash (map row_key fields.now) slots.new) }
+    ensures fault { result ≡ verdict_of (fields_fault types.now.rows.now fields.now) }
+    ensures sound { IfOk result (λ _. Sound same_field field_hash (map row_key fields.now) slots.new) }
 {
-    for i in 0..fields.len() {
-        if let Some(fault) = enter_field(types, type_slots, fields, i, slots) {
-            return Some(SchemaFault::InFields(fault, (i + 1) as u32));
+    for (i, row) in fields.iter().enumerate() {
+        if let Err(fault) = enter_field(*row, &fields[..i], types, slots) {
+            return Err(SchemaFault::InFields(fault, (i + 1) as u32));
         }
     }
-    None
+    Ok(())
 }
 
 // The first fault of all rows; or none, and both slots are an index of their rows.
@@ -152,20 +152,22 @@ fn index_tables(
     fields: &[FieldRow],
     type_slots: &mut [u32],
     field_slots: &mut [u32],
-) -> Option<SchemaFault>
+) -> Result<(), SchemaFault>
     requires few_types { length types.now ≤ 1024 }
     requires few_fields { length fields.now ≤ 4096 }
     requires type_size { length type_slots.old ≡ 2048 }
     requires field_size { length field_slots.old ≡ 8192 }
     requires fresh_types { Sound same_name name_hash [] type_slots.old }
     requires fresh_fields { Sound same_field field_hash [] field_slots.old }
-    ensures fault { result ≡ rows_fault types.now fields.now }
-    ensures sound { IfNone result (Sound same_name name_hash (map type_key types.now) type_slots.new × Sound same_field field_hash (map row_key fields.now) field_slots.new) }
+    ensures fault { result ≡ verdict_of (rows_fault types.now fields.now) }
+    ensures sound { IfOk result (λ _. Sound same_name name_hash (map type_key types.now) type_slots.new × Sound same_field field_hash (map row_key fields.now) field_slots.new) }
 {
-    if let Some(fault) = index_types(types, type_slots) {
-        return Some(fault);
-    }
-    index_fields(types, type_slots, fields, field_slots)
+    index_types(types, type_slots)?;
+    let types = FoundTypes {
+        rows: types,
+        slots: type_slots,
+    };
+    index_fields(fields, &types, field_slots)
 }
 
 /// Checks the rows of a schema and indexes them in the slots, which are lent empty: 2,048 for the types and 8,192 for
@@ -184,12 +186,10 @@ pub fn index_rows(
     if !is_empty_index(type_slots, TYPE_SLOTS) || !is_empty_index(field_slots, FIELD_SLOTS) {
         return Err(SchemaFault::SlotsUnfit);
     }
-    match index_tables(rows.types, rows.fields, type_slots, field_slots) {
-        None => Ok(()),
-        Some(fault) => {
-            empty::<TypeRow>(type_slots);
-            empty::<FieldRow>(field_slots);
-            Err(fault)
-        }
+    let verdict = index_tables(rows.types, rows.fields, type_slots, field_slots);
+    if verdict.is_err() {
+        empty::<TypeRow>(type_slots);
+        empty::<FieldRow>(field_slots);
     }
+    verdict
 }

@@ -1,64 +1,71 @@
-// Why rows are no schema, and the refusal in numbers that says so.
+// Why rows are no schema, in words, and the refusal that says so.
 ghost use Rattle.std.specs.Prelude.{◌≡◌};
-ghost use Rattle.table_schema.specs.Faults.{row_fault_number, schema_refusal, make_refusal};
+ghost use Rattle.table_schema.specs.Faults.{row_reason, schema_refusal, make_refusal};
 ghost use Rattle.table_schema.specs.declared.fault.MakeFault.TheVariants as made;
 
-use refusal::{Layer, Refusal};
+use refusal::{Layer, Reason, Refusal};
 use std::alloc::AllocError;
+use thiserror::Error;
 
-/// What is wrong with a row.
-#[derive(Clone, Copy)]
+/// What is wrong with a row, in words that follow the row.
+#[derive(Clone, Copy, PartialEq, Eq, Debug, Error)]
 pub enum RowFault {
     /// A name that is 0.
+    #[error("lacks a name")]
     NameMissing,
     /// A type's kind that is not 1 to 6.
+    #[error("is of no known kind")]
     KindUnknown,
     /// A type, or a field of a type, that came before.
+    #[error("comes twice")]
     Repeated,
     /// A field's owner that is no object or interface of the rows.
+    #[error("is in no object or interface of the schema")]
     OwnerUnfit,
 }
 
-impl RowFault {
-    // The number of the fault.
-    fn number(self) -> u32
-        ensures { result ≡ row_fault_number self }
-    {
-        match self {
-            RowFault::NameMissing => 5,
-            RowFault::KindUnknown => 6,
-            RowFault::Repeated => 7,
-            RowFault::OwnerUnfit => 8,
+impl From<RowFault> for Reason {
+    ghost from_gives = { λ fault r. r ≡ row_reason fault };
+
+    fn from(fault: RowFault) -> Reason {
+        match fault {
+            RowFault::NameMissing => Reason::NameMissing,
+            RowFault::KindUnknown => Reason::KindUnknown,
+            RowFault::Repeated => Reason::Repeated,
+            RowFault::OwnerUnfit => Reason::OwnerUnfit,
         }
     }
 }
 
 /// Why rows are refused. A row is told by its place plus 1.
-#[derive(Clone, Copy)]
+#[derive(Clone, Copy, PartialEq, Eq, Debug, Error)]
 pub enum SchemaFault {
     /// More types or more fields than a schema holds.
+    #[error("it has more types or fields than a schema holds")]
     OverLimit,
     /// The slots that were lent are not an empty index of the size that is asked for.
+    #[error("the slots that were lent do not fit it")]
     SlotsUnfit,
     /// The first faulty row is one of the types.
+    #[error("type {1} {0}")]
     InTypes(RowFault, u32),
     /// The types are in order, and the first faulty row is one of the fields.
+    #[error("field {1} {0}")]
     InFields(RowFault, u32),
 }
 
-impl SchemaFault {
-    /// The refusal in numbers.
-    pub fn refusal(self) -> Refusal
-        ensures { result ≡ schema_refusal self }
-    {
-        let (number, row) = match self {
-            SchemaFault::OverLimit => (1, 0),
-            SchemaFault::SlotsUnfit => (15, 0),
-            SchemaFault::InTypes(fault, row) => (fault.number(), row),
-            SchemaFault::InFields(fault, row) => (fault.number(), row),
+impl From<SchemaFault> for Refusal {
+    ghost from_gives = { λ fault r. r ≡ schema_refusal fault };
+
+    fn from(fault: SchemaFault) -> Refusal {
+        let (reason, row) = match fault {
+            SchemaFault::OverLimit => (Reason::SchemaOverLimit, 0),
+            SchemaFault::SlotsUnfit => (Reason::IndexUnfit, 0),
+            SchemaFault::InTypes(fault, row) => (Reason::from(fault), row),
+            SchemaFault::InFields(fault, row) => (Reason::from(fault), row),
         };
         Refusal {
-            number,
+            reason,
             layer: Layer::Schema,
             row,
         }
@@ -66,21 +73,20 @@ impl SchemaFault {
 }
 
 /// Why no schema was made: its rows are refused, or there was no memory.
-#[derive(Clone, Copy)]
+#[derive(Clone, Copy, PartialEq, Eq, Debug)]
 pub enum MakeFault {
     Rows(SchemaFault),
     NoMemory,
 }
 
-impl MakeFault {
-    /// The refusal in numbers.
-    pub fn refusal(self) -> Refusal
-        ensures { result ≡ make_refusal self }
-    {
-        match self {
-            MakeFault::Rows(fault) => fault.refusal(),
+impl From<MakeFault> for Refusal {
+    ghost from_gives = { λ fault r. r ≡ make_refusal fault };
+
+    fn from(fault: MakeFault) -> Refusal {
+        match fault {
+            MakeFault::Rows(fault) => Refusal::from(fault),
             MakeFault::NoMemory => Refusal {
-                number: 26,
+                reason: Reason::NoMemory,
                 layer: Layer::Schema,
                 row: 0,
             },

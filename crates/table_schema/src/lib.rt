@@ -7,6 +7,7 @@
 
 mod check;
 mod fault;
+mod indexed;
 mod original;
 mod rows;
 mod table;
@@ -14,5 +15,5 @@ mod table;
 pub use check::index_rows;
 pub use fault::{MakeFault, RowFault, SchemaFault};
 pub use original::schema_with_meta_fields;
-pub use rows::{FieldRow, SchemaRows, TypeRow};
+pub use rows::{FieldRow, RootTypes, SchemaRows, TypeRow};
 pub use table::TableSchema;

@@ -12,10 +12,9 @@ pub fn schema_with_meta_fields(
     heap: Global,
     rows: &SchemaRows<'_>,
 ) -> Result<MetaLayer<TableSchema>, MakeFault>
-    ensures { MakesLayer rows.now.types.now rows.now.fields.now rows.now.query rows.now.mutation rows.now.subscription result }
+    ensures { MakesLayer rows.now.types.now rows.now.fields.now rows.now.roots result }
 {
-    match TableSchema::new(heap, rows) {
-        Ok(lower) => Ok(MetaLayer { lower }),
-        Err(fault) => Err(fault),
-    }
+    Ok(MetaLayer {
+        lower: TableSchema::new(heap, rows)?,
+    })
 }

@@ -1,8 +1,10 @@
 // The rows of a schema as they are handed over, and the keys by which they are found.
+ghost use Rattle.std.specs.Prelude.{◌≡◌};
 ghost use Rattle.table_schema.specs.Keys.{type_key, row_key, entry_key};
+ghost use Rattle.table_schema.specs.Meaning.{root_of};
 
 use ordered_index::{Entry, TypeField};
-use schema::FieldDefinition;
+use schema::{FieldDefinition, Name, OperationType};
 
 /// A type: its name and the number of its kind, 1 to 6.
 #[derive(Clone, Copy)]
@@ -19,14 +21,34 @@ pub struct FieldRow {
     pub inner: u32,
 }
 
-/// All rows of a schema, and the names of its root types, 0 for none.
+/// The names of the root types, 0 for none.
+#[derive(Clone, Copy, PartialEq, Eq, Debug)]
+pub struct RootTypes {
+    pub query: Name,
+    pub mutation: Name,
+    pub subscription: Name,
+}
+
+impl RootTypes {
+    /// The root type of operations of this type, if there is one.
+    pub fn of(self, operation_type: OperationType) -> Option<Name>
+        ensures { result ≡ root_of self operation_type }
+    {
+        let name = match operation_type {
+            OperationType::Query => self.query,
+            OperationType::Mutation => self.mutation,
+            OperationType::Subscription => self.subscription,
+        };
+        if name == 0 { None } else { Some(name) }
+    }
+}
+
+/// All rows of a schema, and its root types.
 #[derive(Clone, Copy)]
 pub struct SchemaRows<'a> {
     pub types: &'a [TypeRow],
     pub fields: &'a [FieldRow],
-    pub query: u32,
-    pub mutation: u32,
-    pub subscription: u32,
+    pub roots: RootTypes,
 }
 
 /// A field as a schema keeps it: its definition, with its place, beside the key.

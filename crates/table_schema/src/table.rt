@@ -1,7 +1,8 @@
 // The schema that owns its rows and their indexes.
-ghost use Rattle.table_schema.specs.Kept.{TypesFound, FieldsFound, OwnersKnown};
+ghost use Rattle.table_schema.specs.Kept.{OwnersKnown};
 
-use crate::rows::{FieldEntry, TypeRow};
+use crate::indexed::IndexedTable;
+use crate::rows::{FieldEntry, RootTypes, TypeRow};
 
 mod answers;
 mod make;
@@ -9,14 +10,8 @@ mod make;
 /// A schema of types and fields that were handed over as rows. Each lookup goes through an index.
 #[derive(Drop)]
 pub struct TableSchema {
-    types: Vec<TypeRow>,
-    type_slots: Vec<u32>,
-    fields: Vec<FieldEntry>,
-    field_slots: Vec<u32>,
-    query: u32,
-    mutation: u32,
-    subscription: u32,
-    ghost types_found: { TypesFound types.items type_slots.items },
-    ghost fields_found: { FieldsFound fields.items field_slots.items },
-    ghost owners_known: { OwnersKnown types.items fields.items },
+    types: IndexedTable<TypeRow>,
+    fields: IndexedTable<FieldEntry>,
+    roots: RootTypes,
+    ghost owners_known: { OwnersKnown types.entries.items fields.entries.items },
 }

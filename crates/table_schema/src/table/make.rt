@@ -6,7 +6,8 @@ ghost use Rattle.table_schema.specs.Table.{Makes};
 use super::TableSchema;
 use crate::check::{FIELD_SLOTS, MAX_FIELDS, MAX_TYPES, TYPE_SLOTS, index_rows};
 use crate::fault::{MakeFault, SchemaFault};
-use crate::rows::{FieldEntry, FieldRow, SchemaRows, TypeRow};
+use crate::indexed::IndexedTable;
+use crate::rows::{FieldEntry, FieldRow, SchemaRows};
 use ordered_index::Entry;
 use schema::FieldDefinition;
 use std::alloc::{AllocError, Global};
@@ -18,30 +19,19 @@ fn empty_slots(heap: Global, size: usize) -> Result<Vec<u32>, AllocError>
     vec![in heap; 0u32; size]
 }
 
-// A copy of the rows of the types.
-fn copied_types(heap: Global, rows: &[TypeRow]) -> Result<Vec<TypeRow>, AllocError>
-    ensures { IfOk result (λ v. v.items ≡ rows.now) }
-{
-    let mut types = Vec::new(heap);
-    types.extend_from_slice(rows)?;
-    Ok(types)
-}
-
 // The entries of the rows of the fields, each with its definition place: the row's place plus 1.
 fn field_entries(heap: Global, rows: &[FieldRow]) -> Result<Vec<FieldEntry>, AllocError>
     requires { length rows.now ≤ 4096 }
     ensures { IfOk result (λ v. v.items ≡ entries_from 0 rows.now) }
 {
     let mut entries = Vec::with_capacity(heap, rows.len())?;
-    for i in 0..rows.len() {
-        let row = rows[i];
-        let definition = FieldDefinition {
-            place: (i + 1) as u32,
-            inner: row.inner,
-        };
+    for (i, row) in rows.iter().enumerate() {
         entries.push(FieldEntry {
             key: row.key(),
-            definition,
+            definition: FieldDefinition {
+                place: (i + 1) as u32,
+                inner: row.inner,
+            },
         })?;
     }
     Ok(entries)
@@ -50,7 +40,7 @@ fn field_entries(heap: Global, rows: &[FieldRow]) -> Result<Vec<FieldEntry>, All
 impl TableSchema {
     /// Makes a schema of the rows, which stay untouched.
     pub fn new(heap: Global, rows: &SchemaRows<'_>) -> Result<TableSchema, MakeFault>
-        ensures { Makes rows.now.types.now rows.now.fields.now rows.now.query rows.now.mutation rows.now.subscription result }
+        ensures { Makes rows.now.types.now rows.now.fields.now rows.now.roots result }
     {
         if rows.types.len() > MAX_TYPES || rows.fields.len() > MAX_FIELDS {
             return Err(MakeFault::Rows(SchemaFault::OverLimit));
@@ -58,16 +48,12 @@ impl TableSchema {
         let mut type_slots = empty_slots(heap, TYPE_SLOTS)?;
         let mut field_slots = empty_slots(heap, FIELD_SLOTS)?;
         index_rows(rows, type_slots.as_mut_slice(), field_slots.as_mut_slice())?;
-        let types = copied_types(heap, rows.types)?;
+        let types = rows.types.to_vec(heap)?;
         let fields = field_entries(heap, rows.fields)?;
         Ok(TableSchema {
-            types,
-            type_slots,
-            fields,
-            field_slots,
-            query: rows.query,
-            mutation: rows.mutation,
-            subscription: rows.subscription,
+            types: IndexedTable::new(types, type_slots),
+            fields: IndexedTable::new(fields, field_slots),
+            roots: rows.roots,
         })
     }
 }

@@ -11,4 +11,4 @@ use Rattle.table_schema.proofs.check.index_fields.Given as goal
 abbrev pub invariant-loop-i : goal.invariant-loop-i
 invariant-loop-i l =
     Sound same_field field_hash (keys_of row_key l.i l.fields) l.slots
-    × (first_fault InFields (field_fault_at l.types l.fields) l.i (length l.fields - l.i) ≡ fields_fault l.types l.fields)
+    × (first_fault InFields (field_fault_at l.types.rows.now l.fields) l.i (length l.fields - l.i) ≡ fields_fault l.types.rows.now l.fields)

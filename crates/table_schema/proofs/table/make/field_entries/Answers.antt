@@ -1,5 +1,4 @@
 use Rattle.std.proofs.Common.{◌≡◌, ◌+◌, [], ◌∷◌, ◌++◌, get_or, take, sym, ap, ◌∙◌}
-use Rattle.std.proofs.lemmas.List.{take_all}
 use Rattle.schema.specs.Meta.{defined}
 use Rattle.table_schema.specs.declared.rows.FieldEntry.{FieldEntry}
 use Rattle.table_schema.specs.Meaning.{no_field}
@@ -18,6 +17,3 @@ loop-i-preserved c =
     ∙ ap (λ es. es ++ pushed ∷ []) c.loop-i.invariant
     ∙ ap (λ e. entries_from 0 (take i rows) ++ e ∷ []) same
     ∙ sym (entries_more rows i c.loop-i-test.true)
-
-pub returns : goal.returns
-returns c = c.loop-i.invariant ∙ ap (entries_from 0) (take_all c.loop-i.i c.args.rows.now c.loop-i-test.false)
