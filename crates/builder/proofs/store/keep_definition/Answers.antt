@@ -1,5 +1,5 @@
 -- A definition goes where its role says.
-use Rattle.std.proofs.Common.{Some, ◌≡◌, sym, ap, ◌∙◌, subst, rules}
+use Rattle.std.proofs.Common.{Some, sym, ap, ◌∙◌, subst}
 use Rattle.building_rules.specs.Definitions.{Role}
 use Rattle.stored_tables.specs.Layout.{stored_head}
 use Rattle.builder.specs.Filling.{output}
@@ -13,7 +13,7 @@ pub returns-in-Some-Operation-2 : goal.returns-in-Some-Operation-2
 returns-in-Some-Operation-2 c =
     let p = c.args.progress in
     let d = c.args.definition in
-    let role = named_role (stored_head d) (operation_number d.row.kind (sym c.in-Some-Operation-2.ensures-1 ∙ ap Some c.in-Some-Operation-2.field-0-is)) c.if-definition-eq0.false in
+    let role = named_role (stored_head d) (operation_number d.row.kind (sym c.in-Some-Operation.ensures ∙ ap Some c.in-Some-Operation.field-0-is)) c.if-definition-eq0.false in
     let operations = table c.args.operations.now c.args.operation_slots.now p.operations in
     let fragments = table c.args.fragments.now c.args.fragment_slots.now p.fragments in
     let free = subst (λ (r : Role). Free r d.row.name operations fragments) role c.requires.free in
