@@ -1,21 +1,25 @@
 // Why two tables are no document, in words and as a refusal.
 use layout::RowFault;
 use refusal::{Layer, Reason, Refusal};
-use std::error::Error;
-use std::fmt;
+use thiserror::Error;
 
 /// Why a document is refused. A row is told by its place plus 1.
-#[derive(Clone, Copy, PartialEq, Eq, Debug)]
+#[derive(Clone, Copy, PartialEq, Eq, Debug, Error)]
 pub enum DocumentFault {
     /// More definitions than a document holds.
+    #[error("it has more definitions than a document holds")]
     TooManyDefinitions,
     /// More selection rows than a document holds.
+    #[error("it has more rows than a document holds")]
     TooManyRows,
     /// Rows, but no definition that they belong to.
+    #[error("it has rows, but no definition")]
     NoDefinition,
     /// The first faulty row is one of the definitions.
+    #[error("definition {1} {0}")]
     InDefinitions(RowFault, u32),
     /// The definitions are in order, and the first faulty row is one of the selections.
+    #[error("row {1} {0}")]
     InRows(RowFault, u32),
 }
 
@@ -41,19 +45,3 @@ impl From<DocumentFault> for Refusal {
         }
     }
 }
-
-impl fmt::Display for DocumentFault {
-    fn fmt<W: fmt::Write>(&self, f: &mut fmt::Formatter<W>) -> fmt::Result {
-        match self {
-            DocumentFault::TooManyDefinitions => {
-                write!(f, "it has more definitions than a document holds")
-            }
-            DocumentFault::TooManyRows => write!(f, "it has more rows than a document holds"),
-            DocumentFault::NoDefinition => write!(f, "it has rows, but no definition"),
-            DocumentFault::InDefinitions(fault, row) => write!(f, "definition {row} {fault}"),
-            DocumentFault::InRows(fault, row) => write!(f, "row {row} {fault}"),
-        }
-    }
-}
-
-impl Error for DocumentFault {}

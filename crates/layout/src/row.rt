@@ -3,17 +3,19 @@ ghost use Rattle.std.specs.Prelude.{◌≡◌};
 ghost use Rattle.layout.specs.declared.row.RowView.{RowView};
 
 use refusal::Reason;
-use std::error::Error;
-use std::fmt;
+use thiserror::Error;
 
-/// What is wrong with a row.
-#[derive(Clone, Copy, PartialEq, Eq, Debug)]
+/// What is wrong with a row, in words that follow the row.
+#[derive(Clone, Copy, PartialEq, Eq, Debug, Error)]
 pub enum RowFault {
     /// A name that is 0 where one is needed.
+    #[error("lacks a name")]
     NameMissing,
     /// A member or the end breaks the layout.
+    #[error("breaks the layout")]
     Broken,
     /// The row stands deeper than is allowed.
+    #[error("stands deeper than 32")]
     TooDeep,
 }
 
@@ -30,19 +32,6 @@ impl From<RowFault> for Reason {
         }
     }
 }
-
-/// The fault as it follows the row that has it.
-impl fmt::Display for RowFault {
-    fn fmt<W: fmt::Write>(&self, f: &mut fmt::Formatter<W>) -> fmt::Result {
-        f.write_str(match self {
-            RowFault::NameMissing => "lacks a name",
-            RowFault::Broken => "breaks the layout",
-            RowFault::TooDeep => "stands deeper than 32",
-        })
-    }
-}
-
-impl Error for RowFault {}
 
 /// What the layout sees of a row.
 #[derive(Clone, Copy, PartialEq, Eq, Debug)]
