@@ -1,16 +1,17 @@
 // The answers of the schemas: a table schema under the meta-fields, the open schema, and both borrowed.
 use crate::rows::{ENUM, OBJECT, SCALAR, field_rows, type_rows};
+use refusal::Refusal;
 use schema::names::{
     QUERY, SCHEMA_FIELD, SCHEMA_TYPE, STRING, TYPE_FIELD, TYPE_TYPE, TYPENAME_FIELD,
 };
 use schema::{
     Answer, FieldDefinition, FieldLookupError, MetaLayer, Name, OpenSchema, OperationType,
-    Question, Schema, SchemaRef, TypeKind, ask, field_or_meta_field, knows_by_field,
+    Question, Schema, TypeKind, ask, field_or_meta_field, knows_by_field,
 };
 use std::alloc::Global;
 use std::process::Abort;
 use std::test::Fail;
-use table_schema::{SchemaRows, TableSchema};
+use table_schema::{RootTypes, SchemaRows, TableSchema};
 
 // The names of the schema
 //     type Query { meter: Meter unit: Unit }
@@ -54,13 +55,15 @@ fn table(heap: Global, fields: &[(u32, u32, u32)], query: Name) -> Result<TableS
     let rows = SchemaRows {
         types: types.as_slice(),
         fields: fields.as_slice(),
-        query,
-        mutation: 0,
-        subscription: 0,
+        roots: RootTypes {
+            query,
+            mutation: 0,
+            subscription: 0,
+        },
     };
     match TableSchema::new(heap, &rows) {
         Ok(schema) => Ok(schema),
-        Err(fault) => Err(Fail::new(fault.refusal().number)),
+        Err(fault) => Err(Fail::new(Refusal::from(fault).reason.number())),
     }
 }
 
@@ -90,7 +93,7 @@ fn fields<S: Schema>(
     schema: &S,
     cases: &[(Name, Name, Found)],
 ) -> Result<(), Fail> {
-    let borrowed = SchemaRef { schema };
+    let borrowed = &schema;
     for (type_name, field_name, expected) in cases {
         let (type_name, field_name) = (*type_name, *field_name);
         assert_eq!(rt;
@@ -121,11 +124,11 @@ fn fields<S: Schema>(
 
 // The schema gives these answers to any questions, whether it is asked itself or borrowed.
 fn answers<S: Schema>(rt: &impl Abort, schema: &S, cases: &[(Question, Answer)]) {
-    let borrowed = SchemaRef { schema };
+    let borrowed = &schema;
     for i in 0..cases.len() {
         let (question, answer) = cases[i];
         assert_eq!(rt; ask(schema, question), answer, "{}", i);
-        assert_eq!(rt; ask(&borrowed, question), answer, "{}", i);
+        assert_eq!(rt; ask(borrowed, question), answer, "{}", i);
     }
 }
 
@@ -344,9 +347,7 @@ fn open_schema(rt: HostRuntime) -> Result<(), Fail> {
 #[test]
 fn borrowed_beneath_the_layer(rt: HostRuntime) -> Result<(), Fail> {
     let owned = table(rt.alloc(), &FIELDS, QUERY)?;
-    let layer = MetaLayer {
-        lower: SchemaRef { schema: &owned },
-    };
+    let layer = MetaLayer { lower: &owned };
     fields(
         &rt,
         &layer,

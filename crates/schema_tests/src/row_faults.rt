@@ -1,9 +1,9 @@
 // Rows that are no schema: every fault at the first row where it can stand, which of two faults is told, and the sizes.
 use crate::rows::{
-    ENUM, INPUT_OBJECT, INTERFACE, OBJECT, SCALAR, UNION, come_to, field_rows, many_fields,
+    ENUM, INPUT_OBJECT, INTERFACE, OBJECT, SCALAR, Told, UNION, come_to, field_rows, many_fields,
     many_types, rootless, type_rows,
 };
-use refusal::{Layer, Refusal};
+use refusal::Layer;
 use std::alloc::Global;
 use std::process::Abort;
 use std::test::Fail;
@@ -15,15 +15,11 @@ type Case = (
     (u32, u32),
 );
 
-fn told(number: u32, row: u32) -> Option<Refusal> {
+fn told(number: u32, row: u32) -> Option<Told> {
     if number == 0 {
         return None;
     }
-    Some(Refusal {
-        number,
-        layer: Layer::Schema,
-        row,
-    })
+    Some((number, Layer::Schema, row))
 }
 
 fn each(rt: &impl Abort, heap: Global, cases: &[Case]) -> Result<(), Fail> {

@@ -1,9 +1,11 @@
 // What the tests of the table schema share: rows from short tuples, many rows, and the verdict on rows.
-use refusal::Refusal;
+use refusal::{Layer, Refusal};
 use std::alloc::{AllocError, Global};
 use std::process::Abort;
 use std::test::Fail;
-use table_schema::{FieldRow, SchemaFault, SchemaRows, TableSchema, TypeRow, index_rows};
+use table_schema::{
+    FieldRow, RootTypes, SchemaFault, SchemaRows, TableSchema, TypeRow, index_rows,
+};
 
 // The numbers of the kinds.
 pub const SCALAR: u32 = 1;
@@ -82,27 +84,31 @@ pub fn rootless<'a>(types: &'a [TypeRow], fields: &'a [FieldRow]) -> SchemaRows<
     SchemaRows {
         types,
         fields,
-        query: 0,
-        mutation: 0,
-        subscription: 0,
+        roots: RootTypes {
+            query: 0,
+            mutation: 0,
+            subscription: 0,
+        },
     }
 }
 
-// The refusal in numbers, if the call was refused.
-pub fn refused(verdict: Result<(), SchemaFault>) -> Option<Refusal> {
+// What a refusal tells in numbers: the number of its reason, the layer and the row.
+pub type Told = (u32, Layer, u32);
+
+pub fn told(refusal: Refusal) -> Told {
+    (refusal.reason.number(), refusal.layer, refusal.row)
+}
+
+// What is told, if the call was refused.
+pub fn refused(verdict: Result<(), SchemaFault>) -> Option<Told> {
     match verdict {
         Ok(()) => None,
-        Err(fault) => Some(fault.refusal()),
+        Err(fault) => Some(told(Refusal::from(fault))),
     }
 }
 
 fn all_empty(slots: &[u32]) -> bool {
-    for s in slots {
-        if *s != 0 {
-            return false;
-        }
-    }
-    true
+    slots.iter().all(|s| *s == 0)
 }
 
 // The rows come to this verdict in slots that are lent, which a refusal leaves empty, and as a schema of their own.
@@ -110,7 +116,7 @@ pub fn come_to(
     rt: &impl Abort,
     heap: Global,
     rows: &SchemaRows<'_>,
-    expected: Option<Refusal>,
+    expected: Option<Told>,
 ) -> Result<(), Fail> {
     let mut type_slots = vec![in heap; 0u32; 2048]?;
     let mut field_slots = vec![in heap; 0u32; 8192]?;
@@ -127,7 +133,7 @@ pub fn come_to(
     }
     let made = match TableSchema::new(heap, rows) {
         Ok(_) => None,
-        Err(fault) => Some(fault.refusal()),
+        Err(fault) => Some(told(Refusal::from(fault))),
     };
     assert_eq!(rt;
         made,

@@ -1,6 +1,6 @@
 // The slots that are lent for indexing rows: of another size or not empty they are refused, and stay as they were.
 use crate::rows::{many_fields, many_types, refused, rootless};
-use refusal::{Layer, Refusal};
+use refusal::Layer;
 use std::alloc::{AllocError, Global};
 use std::process::Abort;
 use std::test::Fail;
@@ -36,11 +36,7 @@ fn unfit(rt: &impl Abort, heap: Global, lent: Lent, count: u32, number: u32) -> 
     let verdict = refused(index_rows(&rows, type_slots.as_mut_slice(), field_slots.as_mut_slice()));
     assert_eq!(rt;
         verdict,
-        Some(Refusal {
-            number,
-            layer: Layer::Schema,
-            row: 0,
-        }),
+        Some((number, Layer::Schema, 0)),
         "{} slots for types, {} for fields",
         lent.type_slots.0,
         lent.field_slots.0
@@ -96,11 +92,7 @@ fn slots_lent_twice(rt: HostRuntime) -> Result<(), Fail> {
     let second = refused(index_rows(&rows, type_slots.as_mut_slice(), field_slots.as_mut_slice()));
     assert_eq!(rt;
         second,
-        Some(Refusal {
-            number: 15,
-            layer: Layer::Schema,
-            row: 0,
-        })
+        Some((15, Layer::Schema, 0))
     );
     assert!(rt; type_slots == types_filled && field_slots == fields_filled);
     Ok(())
