@@ -23,22 +23,22 @@ impl fmt::Display for Misplaced {
     fn fmt<W: fmt::Write>(&self, f: &mut fmt::Formatter<W>) -> fmt::Result {
         match *self {
             Misplaced::NoSchemaYet(keyword) => {
-                let word = keyword.word();
-                write!(f, "a line with {word} belongs to a schema: begin one first")
+                write!(
+                    f,
+                    "a line with {keyword} belongs to a schema: begin one first"
+                )
             }
             Misplaced::TooManyRows(keyword) => {
-                let word = keyword.word();
                 let counting = match keyword {
                     Keyword::Definition | Keyword::Row => "no line with doc counts it",
                     _ => "the schema has all that its first line counts",
                 };
-                write!(f, "a {word} too many: {counting}")
+                write!(f, "a {keyword} too many: {counting}")
             }
             Misplaced::RowsMissing(keyword, left) => {
-                let word = keyword.word();
                 write!(
                     f,
-                    "a line with {word} comes too soon; still to come: {left}"
+                    "a line with {keyword} comes too soon; still to come: {left}"
                 )
             }
             Misplaced::EndsEarly(left) => {

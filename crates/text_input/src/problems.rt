@@ -56,12 +56,33 @@ pub enum ReadFault<'a> {
 }
 
 impl<'a> From<AllocError> for ReadFault<'a> {
+    ghost use Rattle.std.specs.Prelude.{◌≡◌};
+    ghost use Rattle.text_input.specs.declared.problems.ReadFault.TheVariants.{NoMemory};
+
+    ghost from_gives = { λ _ fault. fault ≡ NoMemory };
+
     fn from(_e: AllocError) -> ReadFault<'a> {
         ReadFault::NoMemory
     }
 }
 
+impl<'a> From<TextError<'a>> for ReadFault<'a> {
+    ghost use Rattle.std.specs.Prelude.{◌≡◌};
+    ghost use Rattle.text_input.specs.declared.problems.ReadFault.TheVariants.{Text};
+
+    ghost from_gives = { λ error fault. fault ≡ Text error };
+
+    fn from(error: TextError<'a>) -> ReadFault<'a> {
+        ReadFault::Text(error)
+    }
+}
+
 impl<'a> From<Misplaced> for Problem<'a> {
+    ghost use Rattle.std.specs.Prelude.{◌≡◌};
+    ghost use Rattle.text_input.specs.declared.problems.Problem.TheVariants.{Misplaced};
+
+    ghost from_gives = { λ misplaced problem. problem ≡ Misplaced misplaced };
+
     fn from(misplaced: Misplaced) -> Problem<'a> {
         Problem::Misplaced(misplaced)
     }
