@@ -4,8 +4,8 @@
 mod answers;
 mod documents;
 mod headings;
-mod lines;
 mod outlines;
+mod printer;
 mod refusals;
 mod sections;
 mod whole;

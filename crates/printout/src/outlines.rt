@@ -36,7 +36,7 @@ impl fmt::Display for ShownDefinition<'_, '_> {
 pub struct ShownSelection<'n, 'a> {
     pub names: &'n NameTable<'a>,
     pub row: SelectionRow,
-    pub depth: usize,
+    pub depth: u32,
 }
 
 impl fmt::Display for ShownSelection<'_, '_> {
