@@ -1,8 +1,8 @@
 // Documents in words: how many rows were read, and the outline of the selections or why they are refused.
-use crate::outlines::{ShownDefinition, ShownSelection};
 use crate::printer::Printer;
 use crate::refusals::Refused;
 use crate::sections::DocumentText;
+use crate::shown::Shown;
 use document::{Document, MAX_DEPTH, Needs, SelectionSet};
 use std::alloc::AllocError;
 use std::iter;
@@ -28,9 +28,9 @@ impl<'n, 'a> Printer<'n, 'a> {
             Err(fault) => self.line(Refused::Document(fault)),
             Ok(needs) => {
                 for (place, row) in document.definitions.iter().enumerate() {
-                    self.line(ShownDefinition {
+                    self.line(Shown {
                         names: self.names,
-                        row: *row,
+                        value: *row,
                     })?;
                     self.selections(document, document.selections(place), 0)?;
                 }
@@ -50,15 +50,16 @@ impl<'n, 'a> Printer<'n, 'a> {
         if depth >= MAX_DEPTH {
             return Ok(());
         }
+        let indent = 2 * (depth as usize + 1);
         let steps = iter::successors(document.next_selection(set), |step| {
             document.next_selection(step.after)
         });
         for step in steps.take(document.rows.len()) {
-            self.line(ShownSelection {
+            let row = Shown {
                 names: self.names,
-                row: step.row,
-                depth,
-            })?;
+                value: step.row,
+            };
+            self.line(format_args!("{:indent$}{row}", ""))?;
             self.selections(document, step.beneath, depth + 1)?;
         }
         Ok(())

@@ -8,6 +8,7 @@ mod outlines;
 mod printer;
 mod refusals;
 mod sections;
+mod shown;
 mod whole;
 
 pub use whole::printout;

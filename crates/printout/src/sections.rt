@@ -30,14 +30,14 @@ impl TableText {
     pub fn rows(&self) -> SchemaRows<'_>
         ensures types { result.types.now ≡ self.now.types.items }
         ensures fields { result.fields.now ≡ self.now.fields.items }
-        ensures roots { (result.query ≡ self.now.head.query) × ((result.mutation ≡ self.now.head.mutation) × (result.subscription ≡ self.now.head.subscription)) }
+        ensures roots { (result.query ≡ self.now.head.roots.query) × (result.mutation ≡ self.now.head.roots.mutation) × (result.subscription ≡ self.now.head.roots.subscription) }
     {
         SchemaRows {
             types: self.types.as_slice(),
             fields: self.fields.as_slice(),
-            query: self.head.query,
-            mutation: self.head.mutation,
-            subscription: self.head.subscription,
+            query: self.head.roots.query,
+            mutation: self.head.roots.mutation,
+            subscription: self.head.roots.subscription,
         }
     }
 

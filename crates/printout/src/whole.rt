@@ -1,9 +1,9 @@
 // The whole printout of a text, section by section.
 use crate::answers::Answered;
-use crate::headings::TableHeading;
 use crate::printer::Printer;
 use crate::refusals::Refused;
 use crate::sections::{Reading, SchemaText, Section, TableText};
+use crate::shown::Shown;
 use schema::{OpenSchema, Question, Schema, ask};
 use std::alloc::{AllocError, Global};
 use table_schema::{MakeFault, SchemaFault, schema_with_meta_fields};
@@ -43,9 +43,9 @@ impl<'n, 'a> Printer<'n, 'a> {
                 self.answers(&OpenSchema, questions)?;
             }
             SchemaText::Table(table) => {
-                let heading = TableHeading {
+                let heading = Shown {
                     names: self.names,
-                    table,
+                    value: table,
                 };
                 self.line(format_args!("Schema {number}: {heading}"))?;
                 self.table(table, questions)?;

@@ -30,6 +30,7 @@ pub enum Line<'a> {
 }
 
 /// How a schema begins.
+// Kept: the open schema is a schema of its own, and `None` would read as a missing one.
 #[derive(Clone, Copy)]
 pub enum SchemaHead {
     /// The open schema, which has no rows.
@@ -38,11 +39,17 @@ pub enum SchemaHead {
     Table(TableHead),
 }
 
-/// How many rows of a table follow, and the names of its root types, 0 for none.
+/// How many rows of a table follow, and its root types.
 #[derive(Clone, Copy, PartialEq, Eq, Default, Debug)]
 pub struct TableHead {
     pub types: u32,
     pub fields: u32,
+    pub roots: RootTypes,
+}
+
+/// The names of a table's root types, 0 for none.
+#[derive(Clone, Copy, PartialEq, Eq, Default, Debug)]
+pub struct RootTypes {
     pub query: Name,
     pub mutation: Name,
     pub subscription: Name,
@@ -89,15 +96,15 @@ fn read_schema<'a>(words: &mut Words<'_, 'a>) -> Result<SchemaHead, Problem<'a>>
 /// `NTYPES NFIELDS QUERY MUTATION SUBSCRIPTION`
 fn read_head<'a>(words: &mut Words<'_, 'a>) -> Result<TableHead, Problem<'a>> {
     let [types, fields] = words.numbers::<2>()?;
-    let query = words.name()?;
-    let mutation = words.name()?;
-    let subscription = words.name()?;
+    let roots = RootTypes {
+        query: words.name()?,
+        mutation: words.name()?,
+        subscription: words.name()?,
+    };
     Ok(TableHead {
         types,
         fields,
-        query,
-        mutation,
-        subscription,
+        roots,
     })
 }
 
