@@ -20,7 +20,11 @@ pub enum Keyword {
 pub struct NoKeyword;
 
 impl FromStr for Keyword {
+    ghost use Rattle.text_input.specs.Keywords.{ReadsKeyword};
+
     type Err = NoKeyword;
+
+    ghost from_str_gives = { ReadsKeyword };
 
     fn from_str(word: &str) -> Result<Keyword, NoKeyword> {
         match word {
@@ -38,6 +42,11 @@ impl FromStr for Keyword {
 }
 
 impl fmt::Display for Keyword {
+    ghost use Rattle.std.specs.Prelude.{Some};
+    ghost use Rattle.text_input.specs.Keywords.{word_of};
+
+    ghost output = { λ k. Some (word_of k) };
+
     fn fmt<W: fmt::Write>(&self, f: &mut fmt::Formatter<W>) -> fmt::Result {
         f.write_str(match self {
             Keyword::Schema => "schema",
