@@ -62,6 +62,14 @@ impl fmt::Display for Keyword {
 }
 
 impl Keyword {
+    /// Where lines with this keyword are counted, as it is told of a line too many.
+    pub fn counting(self) -> &'static str {
+        match self {
+            Keyword::Definition | Keyword::Row => "no line with doc counts it",
+            _ => "the schema has all that its first line counts",
+        }
+    }
+
     /// The form of the whole line.
     pub fn form(self) -> &'static str {
         match self {
