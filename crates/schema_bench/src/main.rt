@@ -5,9 +5,10 @@
 #![tactic(auto)]
 
 use anyhow::anyhow;
-use schema::{FieldLookupError, MetaLayer, Name, OperationType, Schema, names};
+use schema::{FieldLookupError, MetaLayer, Name, OperationType, Schema, TypeKind, names};
 use std::alloc::{AllocError, Global};
 use std::io;
+use std::ops::Range;
 use std::time::{Duration, Instant};
 use table_schema::{FieldRow, SchemaRows, TableSchema, TypeRow};
 
@@ -26,6 +27,12 @@ const FIRST_FIELD: Name = 1036;
 // How many names the fields have.
 const FIELD_NAMES: u32 = 900;
 
+// The names of the types.
+const KNOWN_TYPES: Range<Name> = FIRST_TYPE..FIRST_FIELD;
+
+// As many names that no type has.
+const NO_TYPES: Range<Name> = 4000..5024;
+
 // A name that no field has.
 const NO_FIELD: Name = 3000;
 
@@ -36,7 +43,7 @@ fn type_rows(heap: Global) -> Result<Vec<TypeRow>, AllocError> {
     (0..TYPES)
         .map(|i| TypeRow {
             name: FIRST_TYPE + i,
-            kind: 2,
+            kind: TypeKind::Object.number(),
         })
         .collect(heap)
 }
@@ -71,11 +78,9 @@ fn field_pairs(heap: Global, fields: &[FieldRow], step: u16) -> Result<Vec<Pair>
         .collect(heap)
 }
 
-// One field in as many types as the schema has, from a first name on.
-fn pairs_with(heap: Global, first_type: u16, field: Name) -> Result<Vec<Pair>, AllocError> {
-    (0..TYPES)
-        .map(|i| (u32::from(first_type) + i, field))
-        .collect(heap)
+// One field in each of these types.
+fn pairs_with(heap: Global, types: Range<Name>, field: Name) -> Result<Vec<Pair>, AllocError> {
+    types.map(|type_name| (type_name, field)).collect(heap)
 }
 
 // What the answer for the field is worth.
@@ -150,23 +155,23 @@ fn measure_hits(
     let hits = measure_fields(rt, schema, "field of a type", pairs)?;
     let pairs = field_pairs(rt.alloc(), fields, 1597)?;
     let mixed = measure_fields(rt, schema, "field of a type, in mixed order", pairs)?;
-    let pairs = pairs_with(rt.alloc(), 12, names::TYPENAME_FIELD)?;
+    let pairs = pairs_with(rt.alloc(), KNOWN_TYPES, names::TYPENAME_FIELD)?;
     let typename = measure_fields(rt, schema, "__typename of a type", pairs)?;
     println!(rt; "fields {hits}, in mixed order {mixed}, __typename {typename}")?;
     Ok(())
 }
 
 fn measure_misses(rt: &HostRuntime, schema: &MetaLayer<TableSchema>) -> anyhow::Result<()> {
-    let pairs = pairs_with(rt.alloc(), 12, NO_FIELD)?;
+    let pairs = pairs_with(rt.alloc(), KNOWN_TYPES, NO_FIELD)?;
     let no_field = measure_fields(rt, schema, "no such field", pairs)?;
-    let pairs = pairs_with(rt.alloc(), 4000, NO_FIELD)?;
+    let pairs = pairs_with(rt.alloc(), NO_TYPES, NO_FIELD)?;
     let no_type = measure_fields(rt, schema, "no such type", pairs)?;
     println!(rt; "no such field {no_field}, no such type {no_type}")?;
     Ok(())
 }
 
 fn measure_others(rt: &HostRuntime, schema: &MetaLayer<TableSchema>) -> anyhow::Result<()> {
-    let pairs = pairs_with(rt.alloc(), 12, NO_FIELD)?;
+    let pairs = pairs_with(rt.alloc(), KNOWN_TYPES, NO_FIELD)?;
     let kinds = measure(
         rt,
         "kind of a type",

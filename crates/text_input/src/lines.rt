@@ -95,32 +95,32 @@ fn read_schema<'a>(words: &mut Words<'_, 'a>) -> Result<SchemaHead, Problem<'a>>
 
 /// `NTYPES NFIELDS QUERY MUTATION SUBSCRIPTION`
 fn read_head<'a>(words: &mut Words<'_, 'a>) -> Result<TableHead, Problem<'a>> {
-    let [types, fields] = words.numbers::<2>()?;
-    let roots = RootTypes {
-        query: words.name()?,
-        mutation: words.name()?,
-        subscription: words.name()?,
-    };
     Ok(TableHead {
-        types,
-        fields,
-        roots,
+        types: words.number()?,
+        fields: words.number()?,
+        roots: RootTypes {
+            query: words.name()?,
+            mutation: words.name()?,
+            subscription: words.name()?,
+        },
     })
 }
 
 /// `NAME KIND`
 fn read_type<'a>(words: &mut Words<'_, 'a>) -> Result<TypeRow, Problem<'a>> {
-    let name = words.name()?;
-    let kind = words.number()?;
-    Ok(TypeRow { name, kind })
+    Ok(TypeRow {
+        name: words.name()?,
+        kind: words.number()?,
+    })
 }
 
 /// `OWNER NAME INNER`
 fn read_field<'a>(words: &mut Words<'_, 'a>) -> Result<FieldRow, Problem<'a>> {
-    let owner = words.name()?;
-    let name = words.name()?;
-    let inner = words.name()?;
-    Ok(FieldRow { owner, name, inner })
+    Ok(FieldRow {
+        owner: words.name()?,
+        name: words.name()?,
+        inner: words.name()?,
+    })
 }
 
 /// `NUMBER TEXT`
@@ -148,8 +148,7 @@ fn read_question<'a>(words: &mut Words<'_, 'a>) -> Result<Question, Problem<'a>>
         }
         "field" => {
             words.take_form("ask field TYPE FIELD");
-            let owner = words.name()?;
-            Ok(Question::Field(owner, words.name()?))
+            Ok(Question::Field(words.name()?, words.name()?))
         }
         word => Err(Problem::UnknownQuestion(word)),
     }
@@ -167,7 +166,9 @@ fn read_operation<'a>(words: &mut Words<'_, 'a>) -> Result<OperationType, Proble
 
 /// `STRICT NDEFS NROWS`
 fn read_document<'a>(words: &mut Words<'_, 'a>) -> Result<DocumentHead, Problem<'a>> {
-    let [strict, definitions, rows] = words.numbers::<3>()?;
+    let strict = words.number()?;
+    let definitions = words.number()?;
+    let rows = words.number()?;
     if strict > 1 {
         return Err(Problem::UnknownStrictness(strict));
     }
@@ -180,57 +181,33 @@ fn read_document<'a>(words: &mut Words<'_, 'a>) -> Result<DocumentHead, Problem<
 
 /// `KIND OPTYPE NAME CONDITION VARIABLES DIRECTIVES LOCATION NAMELOC CONDLOC FIRST END`
 fn read_definition<'a>(words: &mut Words<'_, 'a>) -> Result<DefinitionRow, Problem<'a>> {
-    let [kind, operation_type] = words.numbers::<2>()?;
-    let name = words.name()?;
-    let condition = words.name()?;
-    let [
-        variables,
-        directives,
-        location,
-        name_location,
-        condition_location,
-        first,
-        end,
-    ] = words.numbers::<7>()?;
     Ok(DefinitionRow {
-        kind,
-        operation_type,
-        name,
-        condition,
-        variables,
-        directives,
-        location,
-        name_location,
-        condition_location,
-        first,
-        end,
+        kind: words.number()?,
+        operation_type: words.number()?,
+        name: words.name()?,
+        condition: words.name()?,
+        variables: words.number()?,
+        directives: words.number()?,
+        location: words.number()?,
+        name_location: words.number()?,
+        condition_location: words.number()?,
+        first: words.number()?,
+        end: words.number()?,
     })
 }
 
 /// `KIND NAME ALIAS CONDITION ARGUMENTS DIRECTIVES LOCATION NAMELOC CONDLOC END`
 fn read_row<'a>(words: &mut Words<'_, 'a>) -> Result<SelectionRow, Problem<'a>> {
-    let kind = words.number()?;
-    let name = words.name()?;
-    let alias = words.name()?;
-    let condition = words.name()?;
-    let [
-        arguments,
-        directives,
-        location,
-        name_location,
-        condition_location,
-        end,
-    ] = words.numbers::<6>()?;
     Ok(SelectionRow {
-        kind,
-        name,
-        alias,
-        condition,
-        arguments,
-        directives,
-        location,
-        name_location,
-        condition_location,
-        end,
+        kind: words.number()?,
+        name: words.name()?,
+        alias: words.name()?,
+        condition: words.name()?,
+        arguments: words.number()?,
+        directives: words.number()?,
+        location: words.number()?,
+        name_location: words.number()?,
+        condition_location: words.number()?,
+        end: words.number()?,
     })
 }

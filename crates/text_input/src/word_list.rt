@@ -54,15 +54,6 @@ impl<'n, 'a> Words<'n, 'a> {
         read_number(word)
     }
 
-    /// The next words as numbers.
-    pub fn numbers<const N: usize>(&mut self) -> Result<[u32; N], Problem<'a>> {
-        let mut numbers = [0; N];
-        for number in numbers.iter_mut() {
-            *number = self.number()?;
-        }
-        Ok(numbers)
-    }
-
     /// The next word as a name: its number, or a text that was given to it.
     pub fn name(&mut self) -> Result<Name, Problem<'a>> {
         let word = self.word()?;
