@@ -1,5 +1,6 @@
 // Questions and their answers in words.
-use schema::{Answer, FieldDefinition, FieldLookupError, Name, OperationType, Question, TypeKind};
+use crate::shown::Shown;
+use schema::{Answer, FieldDefinition, FieldLookupError, OperationType, Question, TypeKind};
 use std::fmt;
 use text_input::NameTable;
 
@@ -52,7 +53,7 @@ impl fmt::Display for Place {
     }
 }
 
-/// A question with its answer.
+/// A question with its answer, as `Query.meter: a field of type Meter, defined at place 1`.
 #[derive(Clone, Copy)]
 pub struct Answered<'n, 'a> {
     pub names: &'n NameTable<'a>,
@@ -63,87 +64,67 @@ pub struct Answered<'n, 'a> {
 impl fmt::Display for Answered<'_, '_> {
     fn fmt<W: fmt::Write>(&self, f: &mut fmt::Formatter<W>) -> fmt::Result {
         let names = self.names;
-        show_question(names, self.question, f)?;
+        let question = Shown {
+            names,
+            value: self.question,
+        };
+        write!(f, "{question}: ")?;
         match (self.question, self.answer) {
-            (_, Answer::Root(root)) => show_root(names, root, f),
-            (_, Answer::Known(known)) => show_known(known, f),
-            (_, Answer::Kind(kind)) => show_kind(kind, f),
-            (Question::Field(owner, _), Answer::Field(found)) => show_field(names, owner, found, f),
+            (_, Answer::Root(Some(root))) => {
+                let root = names.show(root);
+                write!(f, "{root}")
+            }
+            (_, Answer::Root(None)) => write!(f, "none"),
+            (_, Answer::Known(true)) => write!(f, "a known type"),
+            (_, Answer::Known(false)) => write!(f, "not a known type"),
+            (_, Answer::Kind(Some(kind))) => {
+                let kind = OfKind(kind);
+                write!(f, "{kind}")
+            }
+            (_, Answer::Kind(None)) => write!(f, "its kind is not known"),
+            (_, Answer::Field(Ok(value))) => {
+                let field = Shown { names, value };
+                write!(f, "{field}")
+            }
+            (Question::Field(owner, _), Answer::Field(Err(error))) => {
+                let owner = names.show(owner);
+                match error {
+                    FieldLookupError::NoSuchType => write!(f, "there is no type {owner}"),
+                    FieldLookupError::NoSuchField => write!(f, "{owner} has no such field"),
+                }
+            }
             // A schema answers a question by the answer of the same name, so this does not come.
-            (_, Answer::Field(_)) => Ok(()),
+            (_, Answer::Field(Err(_))) => Ok(()),
         }
     }
 }
 
-/// What is asked, as `Query.meter: `.
-fn show_question<W: fmt::Write>(
-    names: &NameTable<'_>,
-    question: Question,
-    f: &mut fmt::Formatter<W>,
-) -> fmt::Result {
-    match question {
-        Question::Root(operation) => {
-            let operations = Operations(operation);
-            write!(f, "root of {operations}: ")
-        }
-        Question::Known(name) | Question::Kind(name) => {
-            let name = names.show(name);
-            write!(f, "{name}: ")
-        }
-        Question::Field(owner, field) => {
-            let owner = names.show(owner);
-            let field = names.show(field);
-            write!(f, "{owner}.{field}: ")
+/// What is asked, as `Query.meter`.
+impl fmt::Display for Shown<'_, '_, Question> {
+    fn fmt<W: fmt::Write>(&self, f: &mut fmt::Formatter<W>) -> fmt::Result {
+        match self.value {
+            Question::Root(operation) => {
+                let operations = Operations(operation);
+                write!(f, "root of {operations}")
+            }
+            Question::Known(name) | Question::Kind(name) => {
+                let name = self.names.show(name);
+                write!(f, "{name}")
+            }
+            Question::Field(owner, field) => {
+                let owner = self.names.show(owner);
+                let field = self.names.show(field);
+                write!(f, "{owner}.{field}")
+            }
         }
     }
 }
 
-fn show_root<W: fmt::Write>(
-    names: &NameTable<'_>,
-    root: Option<Name>,
-    f: &mut fmt::Formatter<W>,
-) -> fmt::Result {
-    match root {
-        Some(root) => {
-            let root = names.show(root);
-            write!(f, "{root}")
-        }
-        None => write!(f, "none"),
-    }
-}
-
-fn show_known<W: fmt::Write>(known: bool, f: &mut fmt::Formatter<W>) -> fmt::Result {
-    if known {
-        write!(f, "a known type")
-    } else {
-        write!(f, "not a known type")
-    }
-}
-
-fn show_kind<W: fmt::Write>(kind: Option<TypeKind>, f: &mut fmt::Formatter<W>) -> fmt::Result {
-    match kind {
-        Some(kind) => {
-            let kind = OfKind(kind);
-            write!(f, "{kind}")
-        }
-        None => write!(f, "its kind is not known"),
-    }
-}
-
-fn show_field<W: fmt::Write>(
-    names: &NameTable<'_>,
-    owner: Name,
-    found: Result<FieldDefinition, FieldLookupError>,
-    f: &mut fmt::Formatter<W>,
-) -> fmt::Result {
-    let owner = names.show(owner);
-    match found {
-        Ok(field) => {
-            let inner = names.show(field.inner);
-            let place = Place(field.place);
-            write!(f, "a field of type {inner}, {place}")
-        }
-        Err(FieldLookupError::NoSuchType) => write!(f, "there is no type {owner}"),
-        Err(FieldLookupError::NoSuchField) => write!(f, "{owner} has no such field"),
+/// A field that was found.
+impl fmt::Display for Shown<'_, '_, FieldDefinition> {
+    fn fmt<W: fmt::Write>(&self, f: &mut fmt::Formatter<W>) -> fmt::Result {
+        let inner = self.names.show(self.value.inner);
+        let place = Place(self.value.place);
+        write!(f, "a field of type {inner}, {place}")
     }
 }

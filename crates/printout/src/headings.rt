@@ -1,79 +1,67 @@
 // What was read of a schema, in words.
 use crate::answers::{Answered, OfKind};
 use crate::sections::TableText;
-use schema::{Answer, Name, OperationType, Question, TypeKind};
+use crate::shown::Shown;
+use schema::{Answer, OperationType, Question, TypeKind};
 use std::fmt;
 use table_schema::{FieldRow, TypeRow};
-use text_input::{Counted, NameTable};
+use text_input::Counted;
 
 /// The heading of a table: its types, its fields and its roots, each on a line of its own.
-#[derive(Clone, Copy)]
-pub struct TableHeading<'n, 'a> {
-    pub names: &'n NameTable<'a>,
-    pub table: &'n TableText,
-}
-
-impl fmt::Display for TableHeading<'_, '_> {
+impl fmt::Display for Shown<'_, '_, &TableText> {
     fn fmt<W: fmt::Write>(&self, f: &mut fmt::Formatter<W>) -> fmt::Result {
         let names = self.names;
-        let head = self.table.head;
+        let head = self.value.head;
         let types = Counted(u64::from(head.types), "type");
         let fields = Counted(u64::from(head.fields), "field");
         write!(f, "a table of {types} and {fields}, with the meta-fields")?;
-        for row in self.table.types.iter() {
-            show_type(names, *row, f)?;
+        for row in self.value.types.iter() {
+            let row = Shown { names, value: *row };
+            write!(f, "\n  {row}")?;
         }
-        for row in self.table.fields.iter() {
-            show_field(names, *row, f)?;
+        for row in self.value.fields.iter() {
+            let row = Shown { names, value: *row };
+            write!(f, "\n  {row}")?;
         }
-        show_root(names, OperationType::Query, head.query, f)?;
-        show_root(names, OperationType::Mutation, head.mutation, f)?;
-        show_root(names, OperationType::Subscription, head.subscription, f)
+        let roots = [
+            (OperationType::Query, head.roots.query),
+            (OperationType::Mutation, head.roots.mutation),
+            (OperationType::Subscription, head.roots.subscription),
+        ];
+        for (operation, root) in roots {
+            let root = Answered {
+                names,
+                question: Question::Root(operation),
+                // The number 0 is no root.
+                answer: Answer::Root(Some(root).filter(|root| *root != 0)),
+            };
+            write!(f, "\n  {root}")?;
+        }
+        Ok(())
     }
 }
 
-/// A type's line.
-fn show_type<W: fmt::Write>(
-    names: &NameTable<'_>,
-    row: TypeRow,
-    f: &mut fmt::Formatter<W>,
-) -> fmt::Result {
-    let name = names.show(row.name);
-    match TypeKind::from_number(row.kind) {
-        Some(kind) => {
-            let kind = OfKind(kind);
-            write!(f, "\n  type {name}: {kind}")
-        }
-        None => {
-            let kind = row.kind;
-            write!(f, "\n  type {name}: of the unknown kind {kind}")
+impl fmt::Display for Shown<'_, '_, TypeRow> {
+    fn fmt<W: fmt::Write>(&self, f: &mut fmt::Formatter<W>) -> fmt::Result {
+        let name = self.names.show(self.value.name);
+        match TypeKind::from_number(self.value.kind) {
+            Some(kind) => {
+                let kind = OfKind(kind);
+                write!(f, "type {name}: {kind}")
+            }
+            None => {
+                let kind = self.value.kind;
+                write!(f, "type {name}: of the unknown kind {kind}")
+            }
         }
     }
 }
 
-/// A field's line.
-fn show_field<W: fmt::Write>(
-    names: &NameTable<'_>,
-    row: FieldRow,
-    f: &mut fmt::Formatter<W>,
-) -> fmt::Result {
-    let owner = names.show(row.owner);
-    let name = names.show(row.name);
-    let inner = names.show(row.inner);
-    write!(f, "\n  field {owner}.{name}: of type {inner}")
-}
-
-/// A root's line; the number 0 is no root.
-fn show_root<W: fmt::Write>(
-    names: &NameTable<'_>,
-    operation: OperationType,
-    root: Name,
-    f: &mut fmt::Formatter<W>,
-) -> fmt::Result {
-    let root = Answered {
-        names,
-        question: Question::Root(operation),
-        answer: Answer::Root(if root == 0 { None } else { Some(root) }),
-    };
-    write!(f, "\n  {root}")
+impl fmt::Display for Shown<'_, '_, FieldRow> {
+    fn fmt<W: fmt::Write>(&self, f: &mut fmt::Formatter<W>) -> fmt::Result {
+        let owner = self.names.show(self.value.owner);
+        let name = self.names.show(self.value.name);
+        let inner = self.names.show(self.value.inner);
+        write!(f, "field {owner}.{name}: of type {inner}")
+    }
 }

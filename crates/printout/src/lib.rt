@@ -4,10 +4,11 @@
 mod answers;
 mod documents;
 mod headings;
-mod lines;
 mod outlines;
+mod printer;
 mod refusals;
 mod sections;
+mod shown;
 mod whole;
 
 pub use whole::printout;

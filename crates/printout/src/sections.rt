@@ -10,6 +10,7 @@ use text_input::{
 };
 
 /// The schema of a section.
+// Kept: the open schema is a schema of its own, and `None` would read as a missing one.
 #[derive(Drop)]
 pub enum SchemaText {
     Open,
@@ -29,15 +30,25 @@ impl TableText {
     pub fn rows(&self) -> SchemaRows<'_>
         ensures types { result.types.now ≡ self.now.types.items }
         ensures fields { result.fields.now ≡ self.now.fields.items }
-        ensures roots { (result.query ≡ self.now.head.query) × ((result.mutation ≡ self.now.head.mutation) × (result.subscription ≡ self.now.head.subscription)) }
+        ensures roots { (result.query ≡ self.now.head.roots.query) × (result.mutation ≡ self.now.head.roots.mutation) × (result.subscription ≡ self.now.head.roots.subscription) }
     {
         SchemaRows {
             types: self.types.as_slice(),
             fields: self.fields.as_slice(),
-            query: self.head.query,
-            mutation: self.head.mutation,
-            subscription: self.head.subscription,
+            query: self.head.roots.query,
+            mutation: self.head.roots.mutation,
+            subscription: self.head.roots.subscription,
         }
+    }
+
+    /// Adds the row that the line says.
+    fn add(&mut self, line: Line<'_>) -> Result<(), AllocError> {
+        match line {
+            Line::Type(row) => self.types.push(row)?,
+            Line::Field(row) => self.fields.push(row)?,
+            _ => {}
+        }
+        Ok(())
     }
 
     /// Whether all rows were read that the first line counts.
@@ -65,6 +76,16 @@ impl DocumentText {
             definitions: self.definitions.as_slice(),
             rows: self.rows.as_slice(),
         }
+    }
+
+    /// Adds the row that the line says.
+    fn add(&mut self, line: Line<'_>) -> Result<(), AllocError> {
+        match line {
+            Line::Definition(row) => self.definitions.push(row)?,
+            Line::Row(row) => self.rows.push(row)?,
+            _ => {}
+        }
+        Ok(())
     }
 
     /// Whether all rows were read that the first line counts.
@@ -108,29 +129,37 @@ impl Section {
         }
     }
 
-    /// Adds a type to the table.
-    fn add_type(&mut self, row: TypeRow) -> Result<(), AllocError> {
-        if let SchemaText::Table(table) = &mut self.schema {
-            table.types.push(row)?;
-        }
-        Ok(())
-    }
-
-    /// Adds a field to the table.
-    fn add_field(&mut self, row: FieldRow) -> Result<(), AllocError> {
-        if let SchemaText::Table(table) = &mut self.schema {
-            table.fields.push(row)?;
+    /// Adds what the line says: a row to the schema or to the last document, a question, or a document.
+    fn add(&mut self, heap: Global, line: Line<'_>) -> Result<(), AllocError> {
+        match line {
+            Line::Type(_) | Line::Field(_) => {
+                if let SchemaText::Table(table) = &mut self.schema {
+                    table.add(line)?;
+                }
+            }
+            Line::Definition(_) | Line::Row(_) => {
+                if let Some(document) = self.documents.last_mut() {
+                    document.add(line)?;
+                }
+            }
+            Line::Ask(question) => self.questions.push(question)?,
+            Line::Document(head) => self.documents.push(DocumentText {
+                head,
+                definitions: Vec::new(heap),
+                rows: Vec::new(heap),
+            })?,
+            Line::Schema(_) | Line::Name(_, _) | Line::Blank => {}
         }
         Ok(())
     }
 }
 
-/// What was read of a text: its sections, the names that it gives, and what is wrong with it, if anything is.
+/// What was read of a text: its sections, the names that it gives, and whether it was read to its end.
 #[derive(Drop)]
 pub struct Reading<'a> {
     reader: LineReader<'a>,
     pub sections: Vec<Section>,
-    pub error: Option<TextError<'a>>,
+    pub outcome: Result<(), TextError<'a>>,
 }
 
 impl<'a> Reading<'a> {
@@ -139,7 +168,7 @@ impl<'a> Reading<'a> {
         Reading {
             reader,
             sections: Vec::new(heap),
-            error: None,
+            outcome: Ok(()),
         }
     }
 
@@ -150,65 +179,31 @@ impl<'a> Reading<'a> {
 
     /// Reads the text up to its end or its first error.
     pub fn read(&mut self, heap: Global, text: &'a str) -> Result<(), AllocError> {
-        for line in text.lines() {
-            match self.reader.read(line) {
-                Ok(line) => add_line(heap, &mut self.sections, line)?,
-                Err(ReadFault::Text(error)) => {
-                    self.error = Some(error);
-                    return Ok(());
-                }
-                Err(ReadFault::NoMemory) => return Err(AllocError),
-            }
-        }
-        self.error = self.reader.end().err();
+        self.outcome = match self.read_lines(heap, text) {
+            Ok(()) => Ok(()),
+            Err(ReadFault::Text(error)) => Err(error),
+            Err(ReadFault::NoMemory) => return Err(AllocError),
+        };
         Ok(())
     }
-}
 
-/// Adds what the line says to the last section, or begins a new one.
-fn add_line(heap: Global, sections: &mut Vec<Section>, line: Line<'_>) -> Result<(), AllocError> {
-    if let Line::Schema(head) = line {
-        sections.push(Section::new(heap, head))?;
-        return Ok(());
-    }
-    let Some(section) = sections.last_mut() else {
-        return Ok(());
-    };
-    match line {
-        Line::Type(row) => section.add_type(row),
-        Line::Field(row) => section.add_field(row),
-        Line::Ask(question) => {
-            section.questions.push(question)?;
-            Ok(())
+    /// Reads the text up to its end.
+    fn read_lines(&mut self, heap: Global, text: &'a str) -> Result<(), ReadFault<'a>> {
+        for text in text.lines() {
+            let line = self.reader.read(text)?;
+            self.add(heap, line)?;
         }
-        Line::Document(_) | Line::Definition(_) | Line::Row(_) => {
-            add_to_documents(heap, &mut section.documents, line)
-        }
-        Line::Schema(_) | Line::Name(_, _) | Line::Blank => Ok(()),
+        self.reader.end()?;
+        Ok(())
     }
-}
 
-/// Adds what the line says to the last document, or begins a new one.
-fn add_to_documents(
-    heap: Global,
-    documents: &mut Vec<DocumentText>,
-    line: Line<'_>,
-) -> Result<(), AllocError> {
-    if let Line::Document(head) = line {
-        documents.push(DocumentText {
-            head,
-            definitions: Vec::new(heap),
-            rows: Vec::new(heap),
-        })?;
-        return Ok(());
+    /// Adds what the line says to the last section, or begins a new one.
+    fn add(&mut self, heap: Global, line: Line<'_>) -> Result<(), AllocError> {
+        if let Line::Schema(head) = line {
+            self.sections.push(Section::new(heap, head))?;
+        } else if let Some(section) = self.sections.last_mut() {
+            section.add(heap, line)?;
+        }
+        Ok(())
     }
-    let Some(document) = documents.last_mut() else {
-        return Ok(());
-    };
-    match line {
-        Line::Definition(row) => document.definitions.push(row)?,
-        Line::Row(row) => document.rows.push(row)?,
-        _ => {}
-    }
-    Ok(())
 }

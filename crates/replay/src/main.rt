@@ -14,13 +14,13 @@ use parts::Case;
 use reading::{Part, ReadFault};
 use std::io;
 use std::io::BufReader;
-use verdict::first_refusal;
+use verdict::check_case;
 use words::Words;
 
 fn print_case(rt: &HostRuntime, case: &Case) -> io::Result<()> {
     let id = case.id;
     println!(rt; "case {id}")?;
-    let Some(refusal) = first_refusal(rt.alloc(), case) else {
+    let Err(refusal) = check_case(rt.alloc(), case) else {
         return Ok(());
     };
     let number = refusal.number;

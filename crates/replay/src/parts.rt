@@ -10,10 +10,17 @@ pub struct Case {
     pub sides: Vec<Side>,
 }
 
-/// A schema: the open one, or a table with these rows and root types.
+/// A schema: the open one, or a table.
+// Kept: the open schema is a schema of its own, and `None` would read as a missing one.
 #[derive(Drop)]
-pub struct SchemaPart {
-    pub is_open: bool,
+pub enum SchemaPart {
+    Open,
+    Table(TablePart),
+}
+
+/// The rows and the root types of a table.
+#[derive(Drop)]
+pub struct TablePart {
     pub types: Vec<TypeRow>,
     pub fields: Vec<FieldRow>,
     pub query: u32,

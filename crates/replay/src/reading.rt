@@ -1,15 +1,26 @@
 // How each part of a test case is read from its numbers.
-use crate::parts::{Case, DocumentPart, SchemaPart, Side, TableLengths};
+use crate::parts::{Case, DocumentPart, SchemaPart, Side, TableLengths, TablePart};
 use crate::words::Words;
 use document::{DefinitionRow, SelectionRow};
-use std::alloc::Global;
+use std::alloc::{AllocFailed, Global};
 use table_schema::{FieldRow, TypeRow};
 
 /// Why a part was not read.
-#[derive(Clone, Copy)]
+#[derive(Clone, Copy, PartialEq, Eq, Debug)]
 pub enum ReadFault {
     BadText,
     NoMemory,
+}
+
+impl<T: Drop> From<AllocFailed<T>> for ReadFault {
+    ghost use Rattle.std.specs.Prelude.{◌≡◌};
+    ghost use Rattle.replay.specs.declared.reading.ReadFault.TheVariants.{NoMemory};
+
+    ghost from_gives = { λ _ fault. fault ≡ NoMemory };
+
+    fn from(_e: AllocFailed<T>) -> ReadFault {
+        ReadFault::NoMemory
+    }
 }
 
 /// What is read from a text.
@@ -19,20 +30,14 @@ pub trait Part: Drop {
 
 // The next numbers, which have to be there.
 fn numbers<const N: usize>(words: &mut Words<'_>) -> Result<[u32; N], ReadFault> {
-    match words.numbers::<N>() {
-        Some(all) => Ok(all),
-        None => Err(ReadFault::BadText),
-    }
+    words.numbers::<N>().ok_or(ReadFault::BadText)
 }
 
 // So many parts, one after the other.
 fn read_all<P: Part>(heap: Global, words: &mut Words<'_>, count: u32) -> Result<Vec<P>, ReadFault> {
     let mut parts = Vec::new(heap);
     for _ in 0..count {
-        let part = P::read(heap, words)?;
-        if parts.push(part).is_err() {
-            return Err(ReadFault::NoMemory);
-        }
+        parts.push(P::read(heap, words)?)?;
     }
     Ok(parts)
 }
@@ -53,37 +58,60 @@ impl Part for FieldRow {
 
 impl Part for DefinitionRow {
     fn read(_heap: Global, words: &mut Words<'_>) -> Result<DefinitionRow, ReadFault> {
-        let n = numbers::<11>(words)?;
+        let [
+            kind,
+            operation_type,
+            name,
+            condition,
+            variables,
+            directives,
+            location,
+            name_location,
+            condition_location,
+            first,
+            end,
+        ] = numbers::<11>(words)?;
         Ok(DefinitionRow {
-            kind: n[0],
-            operation_type: n[1],
-            name: n[2],
-            condition: n[3],
-            variables: n[4],
-            directives: n[5],
-            location: n[6],
-            name_location: n[7],
-            condition_location: n[8],
-            first: n[9],
-            end: n[10],
+            kind,
+            operation_type,
+            name,
+            condition,
+            variables,
+            directives,
+            location,
+            name_location,
+            condition_location,
+            first,
+            end,
         })
     }
 }
 
 impl Part for SelectionRow {
     fn read(_heap: Global, words: &mut Words<'_>) -> Result<SelectionRow, ReadFault> {
-        let n = numbers::<10>(words)?;
+        let [
+            kind,
+            name,
+            alias,
+            condition,
+            arguments,
+            directives,
+            location,
+            name_location,
+            condition_location,
+            end,
+        ] = numbers::<10>(words)?;
         Ok(SelectionRow {
-            kind: n[0],
-            name: n[1],
-            alias: n[2],
-            condition: n[3],
-            arguments: n[4],
-            directives: n[5],
-            location: n[6],
-            name_location: n[7],
-            condition_location: n[8],
-            end: n[9],
+            kind,
+            name,
+            alias,
+            condition,
+            arguments,
+            directives,
+            location,
+            name_location,
+            condition_location,
+            end,
         })
     }
 }
@@ -133,14 +161,18 @@ impl Part for SchemaPart {
             return Err(ReadFault::BadText);
         }
         let types = read_all::<TypeRow>(heap, words, types)?;
-        Ok(SchemaPart {
-            is_open: kind == 0,
+        let fields = read_all::<FieldRow>(heap, words, fields)?;
+        // Rows may follow the open schema's line too: they are no part of it.
+        if kind == 0 {
+            return Ok(SchemaPart::Open);
+        }
+        Ok(SchemaPart::Table(TablePart {
             types,
-            fields: read_all::<FieldRow>(heap, words, fields)?,
+            fields,
             query,
             mutation,
             subscription,
-        })
+        }))
     }
 }
 

@@ -1,59 +1,42 @@
-// The first refusal of a test case.
+// Whether the tables of a test case are taken, or the first refusal.
 use crate::parts::{Case, DocumentPart, SchemaPart};
 use document::Document;
 use refusal::Refusal;
 use std::alloc::Global;
 use table_schema::{SchemaRows, TableSchema};
 
-// The refusal of the schema, if it is refused; the open one never is.
-fn schema_refusal(heap: Global, schema: &SchemaPart) -> Option<Refusal> {
-    if schema.is_open {
-        return None;
-    }
-    let rows = SchemaRows {
-        types: schema.types.as_slice(),
-        fields: schema.fields.as_slice(),
-        query: schema.query,
-        mutation: schema.mutation,
-        subscription: schema.subscription,
+// Refuses the rows of a table that are no schema; the open schema has none.
+fn check_schema(heap: Global, schema: &SchemaPart) -> Result<(), Refusal> {
+    let SchemaPart::Table(table) = schema else {
+        return Ok(());
     };
-    match TableSchema::new(heap, &rows) {
-        Ok(_) => None,
-        Err(fault) => Some(fault.refusal()),
-    }
+    let rows = SchemaRows {
+        types: table.types.as_slice(),
+        fields: table.fields.as_slice(),
+        query: table.query,
+        mutation: table.mutation,
+        subscription: table.subscription,
+    };
+    TableSchema::new(heap, &rows).map_err(|fault| fault.refusal())?;
+    Ok(())
 }
 
-// The refusal of the document, if its tables are refused.
-fn document_refusal(part: &DocumentPart) -> Option<Refusal> {
+// Refuses tables that are no document.
+fn check_document(part: &DocumentPart) -> Result<(), Refusal> {
     let document = Document {
         definitions: part.definitions.as_slice(),
         rows: part.rows.as_slice(),
     };
-    match document.check() {
-        Ok(()) => None,
-        Err(fault) => Some(fault.refusal()),
-    }
+    document.check().map_err(|fault| fault.refusal())
 }
 
-// The first refusal of the documents.
-fn refusal_in(documents: &[DocumentPart]) -> Option<Refusal> {
-    for part in documents {
-        if let Some(refusal) = document_refusal(part) {
-            return Some(refusal);
+/// Refuses a case by its schema, or else by the first of its documents that is refused.
+pub fn check_case(heap: Global, case: &Case) -> Result<(), Refusal> {
+    check_schema(heap, &case.schema)?;
+    for side in case.sides.iter() {
+        for part in side.documents.iter() {
+            check_document(part)?;
         }
     }
-    None
-}
-
-/// The first refusal: that of the schema, or else of the first document that is refused.
-pub fn first_refusal(heap: Global, case: &Case) -> Option<Refusal> {
-    if let Some(refusal) = schema_refusal(heap, &case.schema) {
-        return Some(refusal);
-    }
-    for side in case.sides.as_slice() {
-        if let Some(refusal) = refusal_in(side.documents.as_slice()) {
-            return Some(refusal);
-        }
-    }
-    None
+    Ok(())
 }

@@ -12,11 +12,11 @@ pub struct Words<'a> {
     taken: u64,
 }
 
+// The word list of the crate `text_input` has this test too: it is one line, and no reason to stand on that crate.
 fn begins_with_digit(word: &str) -> bool {
-    match word.as_bytes().first() {
-        Some(byte) => byte.is_ascii_digit(),
-        None => false,
-    }
+    word.as_bytes()
+        .first()
+        .is_some_and(|byte| byte.is_ascii_digit())
 }
 
 impl<'a> Words<'a> {
@@ -35,10 +35,7 @@ impl<'a> Words<'a> {
     // Goes on to the next word that begins with a digit.
     fn advance(&mut self) {
         self.ahead = None;
-        for _ in 0..u64::MAX {
-            let Some(word) = self.rest.next() else {
-                return;
-            };
+        for word in self.rest.by_ref() {
             if begins_with_digit(word) {
                 self.ahead = Some(word);
                 return;
@@ -73,8 +70,8 @@ impl<'a> Words<'a> {
     /// The next numbers, if there are so many.
     pub fn numbers<const N: usize>(&mut self) -> Option<[u32; N]> {
         let mut all = [0; N];
-        for i in 0..N {
-            all[i] = self.number()?;
+        for place in all.iter_mut() {
+            *place = self.number()?;
         }
         Some(all)
     }

@@ -5,9 +5,10 @@
 #![tactic(auto)]
 
 use anyhow::anyhow;
-use schema::{FieldLookupError, MetaLayer, Name, OperationType, Schema, names};
+use schema::{FieldLookupError, MetaLayer, Name, OperationType, Schema, TypeKind, names};
 use std::alloc::{AllocError, Global};
 use std::io;
+use std::ops::Range;
 use std::time::{Duration, Instant};
 use table_schema::{FieldRow, SchemaRows, TableSchema, TypeRow};
 
@@ -26,6 +27,12 @@ const FIRST_FIELD: Name = 1036;
 // How many names the fields have.
 const FIELD_NAMES: u32 = 900;
 
+// The names of the types.
+const KNOWN_TYPES: Range<Name> = FIRST_TYPE..FIRST_FIELD;
+
+// As many names that no type has.
+const NO_TYPES: Range<Name> = 4000..5024;
+
 // A name that no field has.
 const NO_FIELD: Name = 3000;
 
@@ -33,34 +40,26 @@ const NO_FIELD: Name = 3000;
 type Pair = (Name, Name);
 
 fn type_rows(heap: Global) -> Result<Vec<TypeRow>, AllocError> {
-    let mut rows = Vec::new(heap);
-    for i in 0..TYPES {
-        rows.push(TypeRow {
+    (0..TYPES)
+        .map(|i| TypeRow {
             name: FIRST_TYPE + i,
-            kind: 2,
-        })?;
-    }
-    Ok(rows)
+            kind: TypeKind::Object.number(),
+        })
+        .collect(heap)
 }
 
 // Four fields for each type.
 fn field_rows(heap: Global) -> Result<Vec<FieldRow>, AllocError> {
-    let mut rows = Vec::new(heap);
-    for i in 0..FIELDS {
-        rows.push(FieldRow {
+    (0..FIELDS)
+        .map(|i| FieldRow {
             owner: FIRST_TYPE + i / 4,
             name: FIRST_FIELD + (i / 4 * 3 + i % 4) % FIELD_NAMES,
             inner: FIRST_TYPE + i % TYPES,
-        })?;
-    }
-    Ok(rows)
+        })
+        .collect(heap)
 }
 
-fn make<'a>(
-    heap: Global,
-    types: &'a [TypeRow],
-    fields: &'a [FieldRow],
-) -> anyhow::Result<TableSchema> {
+fn make(heap: Global, types: &[TypeRow], fields: &[FieldRow]) -> anyhow::Result<TableSchema> {
     let rows = SchemaRows {
         types,
         fields,
@@ -68,86 +67,44 @@ fn make<'a>(
         mutation: FIRST_TYPE + 1,
         subscription: 0,
     };
-    match TableSchema::new(heap, &rows) {
-        Ok(schema) => Ok(schema),
-        Err(_) => Err(anyhow!("the rows are no schema")),
-    }
+    TableSchema::new(heap, &rows).map_err(|_| anyhow!("the rows are no schema"))
 }
 
 // Every field in its type, by steps over the rows: 1 is their order, another odd step a mixed one.
 fn field_pairs(heap: Global, fields: &[FieldRow], step: u16) -> Result<Vec<Pair>, AllocError> {
-    let mut pairs = Vec::new(heap);
-    for i in 0..FIELDS {
-        let place = i.wrapping_mul(u32::from(step)) % FIELDS;
-        if let Some(row) = fields.get(place as usize) {
-            pairs.push((row.owner, row.name))?;
-        }
-    }
-    Ok(pairs)
+    (0..FIELDS)
+        .filter_map(|i| fields.get((i.wrapping_mul(u32::from(step)) % FIELDS) as usize))
+        .map(|row| (row.owner, row.name))
+        .collect(heap)
 }
 
-// One field in as many types as the schema has, from a first name on.
-fn pairs_with(heap: Global, first_type: u16, field: Name) -> Result<Vec<Pair>, AllocError> {
-    let mut pairs = Vec::new(heap);
-    for i in 0..TYPES {
-        pairs.push((u32::from(first_type) + i, field))?;
-    }
-    Ok(pairs)
+// One field in each of these types.
+fn pairs_with(heap: Global, types: Range<Name>, field: Name) -> Result<Vec<Pair>, AllocError> {
+    types.map(|type_name| (type_name, field)).collect(heap)
 }
 
-// What is asked of the schema for each pair.
-#[derive(Clone, Copy)]
-enum Asked {
-    Field,
-    Kind,
-    Root,
+// What the answer for the field is worth.
+fn field_worth(schema: &MetaLayer<TableSchema>, (type_name, field_name): Pair) -> u32 {
+    match schema.type_field(type_name, field_name) {
+        Ok(definition) => definition.place,
+        Err(FieldLookupError::NoSuchField) => 5000,
+        Err(FieldLookupError::NoSuchType) => 6000,
+    }
 }
 
-fn field_round(schema: &MetaLayer<TableSchema>, pairs: &[Pair], start: u64) -> u64 {
-    let mut sum = start;
-    for (type_name, field_name) in pairs {
-        let worth = match schema.type_field(*type_name, *field_name) {
-            Ok(definition) => definition.place,
-            Err(FieldLookupError::NoSuchField) => 5000,
-            Err(FieldLookupError::NoSuchType) => 6000,
-        };
-        sum = sum.wrapping_add(u64::from(worth));
-    }
-    sum
+// What the answer for the kind of the type is worth.
+fn kind_worth(schema: &MetaLayer<TableSchema>, (type_name, _): Pair) -> u32 {
+    schema.kind(type_name).map_or(0, |kind| kind.number())
 }
 
-fn kind_round(schema: &MetaLayer<TableSchema>, pairs: &[Pair], start: u64) -> u64 {
-    let mut sum = start;
-    for (type_name, _) in pairs {
-        let worth = match schema.kind(*type_name) {
-            Some(kind) => kind.number(),
-            None => 0,
-        };
-        sum = sum.wrapping_add(u64::from(worth));
-    }
-    sum
-}
-
-fn root_round(schema: &MetaLayer<TableSchema>, pairs: &[Pair], start: u64) -> u64 {
-    let mut sum = start;
-    for (type_name, _) in pairs {
-        let operation = match type_name % 3 {
-            0 => OperationType::Query,
-            1 => OperationType::Mutation,
-            _ => OperationType::Subscription,
-        };
-        let root = schema.root_operation(operation).unwrap_or(0);
-        sum = sum.wrapping_add(u64::from(root ^ *type_name));
-    }
-    sum
-}
-
-fn round(schema: &MetaLayer<TableSchema>, asked: Asked, pairs: &[Pair], start: u64) -> u64 {
-    match asked {
-        Asked::Field => field_round(schema, pairs, start),
-        Asked::Kind => kind_round(schema, pairs, start),
-        Asked::Root => root_round(schema, pairs, start),
-    }
+// What the answer for a root is worth: the types take turns in asking for each.
+fn root_worth(schema: &MetaLayer<TableSchema>, (type_name, _): Pair) -> u32 {
+    let operation = match type_name % 3 {
+        0 => OperationType::Query,
+        1 => OperationType::Mutation,
+        _ => OperationType::Subscription,
+    };
+    schema.root_operation(operation).unwrap_or(0) ^ type_name
 }
 
 // Writes how long each of so many lookups took, in tenths of a nanosecond.
@@ -158,22 +115,35 @@ fn report(rt: &HostRuntime, what: &str, spent: Duration, lookups: u64) -> io::Re
     eprintln!(rt; "{what}: {whole}.{rest} ns a lookup ({lookups} lookups)")
 }
 
-// Asks for every pair, round after round; the sum of the answers.
-fn measure(
+// Asks for every pair, round after round; the sum of what the answers are worth.
+fn measure<F: Fn(Pair) -> u32>(
     rt: &HostRuntime,
-    schema: &MetaLayer<TableSchema>,
     what: &str,
-    asked: Asked,
     pairs: &[Pair],
-) -> io::Result<u64> {
+    worth: F,
+) -> io::Result<u64>
+    requires { F.IsAlwaysCallable worth }
+{
     let start = Instant::now(rt)?;
-    let mut sum = 0;
+    let mut sum = 0u64;
     for _ in 0..ROUNDS {
-        sum = round(schema, asked, pairs, sum);
+        for pair in pairs {
+            sum = sum.wrapping_add(u64::from(worth(*pair)));
+        }
     }
     let lookups = u64::from(ROUNDS).wrapping_mul(pairs.len() as u64);
     report(rt, what, start.elapsed(rt)?, lookups)?;
     Ok(sum)
+}
+
+// Asks for the field of every pair.
+fn measure_fields(
+    rt: &HostRuntime,
+    schema: &MetaLayer<TableSchema>,
+    what: &str,
+    pairs: Vec<Pair>,
+) -> io::Result<u64> {
+    measure(rt, what, pairs.as_slice(), |pair| field_worth(schema, pair))
 }
 
 fn measure_hits(
@@ -182,46 +152,38 @@ fn measure_hits(
     fields: &[FieldRow],
 ) -> anyhow::Result<()> {
     let pairs = field_pairs(rt.alloc(), fields, 1)?;
-    let hits = measure(
-        rt,
-        schema,
-        "field of a type",
-        Asked::Field,
-        pairs.as_slice(),
-    )?;
+    let hits = measure_fields(rt, schema, "field of a type", pairs)?;
     let pairs = field_pairs(rt.alloc(), fields, 1597)?;
-    let mixed = measure(
-        rt,
-        schema,
-        "field of a type, in mixed order",
-        Asked::Field,
-        pairs.as_slice(),
-    )?;
-    let pairs = pairs_with(rt.alloc(), 12, names::TYPENAME_FIELD)?;
-    let typename = measure(
-        rt,
-        schema,
-        "__typename of a type",
-        Asked::Field,
-        pairs.as_slice(),
-    )?;
+    let mixed = measure_fields(rt, schema, "field of a type, in mixed order", pairs)?;
+    let pairs = pairs_with(rt.alloc(), KNOWN_TYPES, names::TYPENAME_FIELD)?;
+    let typename = measure_fields(rt, schema, "__typename of a type", pairs)?;
     println!(rt; "fields {hits}, in mixed order {mixed}, __typename {typename}")?;
     Ok(())
 }
 
 fn measure_misses(rt: &HostRuntime, schema: &MetaLayer<TableSchema>) -> anyhow::Result<()> {
-    let pairs = pairs_with(rt.alloc(), 12, NO_FIELD)?;
-    let no_field = measure(rt, schema, "no such field", Asked::Field, pairs.as_slice())?;
-    let pairs = pairs_with(rt.alloc(), 4000, NO_FIELD)?;
-    let no_type = measure(rt, schema, "no such type", Asked::Field, pairs.as_slice())?;
+    let pairs = pairs_with(rt.alloc(), KNOWN_TYPES, NO_FIELD)?;
+    let no_field = measure_fields(rt, schema, "no such field", pairs)?;
+    let pairs = pairs_with(rt.alloc(), NO_TYPES, NO_FIELD)?;
+    let no_type = measure_fields(rt, schema, "no such type", pairs)?;
     println!(rt; "no such field {no_field}, no such type {no_type}")?;
     Ok(())
 }
 
 fn measure_others(rt: &HostRuntime, schema: &MetaLayer<TableSchema>) -> anyhow::Result<()> {
-    let pairs = pairs_with(rt.alloc(), 12, NO_FIELD)?;
-    let kinds = measure(rt, schema, "kind of a type", Asked::Kind, pairs.as_slice())?;
-    let roots = measure(rt, schema, "root operation", Asked::Root, pairs.as_slice())?;
+    let pairs = pairs_with(rt.alloc(), KNOWN_TYPES, NO_FIELD)?;
+    let kinds = measure(
+        rt,
+        "kind of a type",
+        pairs.as_slice(),
+        |pair| kind_worth(schema, pair),
+    )?;
+    let roots = measure(
+        rt,
+        "root operation",
+        pairs.as_slice(),
+        |pair| root_worth(schema, pair),
+    )?;
     println!(rt; "kinds {kinds}, roots {roots}")?;
     Ok(())
 }

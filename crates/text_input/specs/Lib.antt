@@ -1,2 +1,3 @@
 -- What the contracts cite.
+pub mod Keywords
 pub mod Places

@@ -2,42 +2,40 @@
 use Rattle.std.specs.Prelude.{◌-◌, Bool, true, false, cond, Some, None, Option, ◌==◌, nat_lt}
 use Rattle.text_input.specs.declared.keywords.Keyword.{Keyword}
 use Rattle.text_input.specs.declared.keywords.Keyword.TheVariants as keyword
+use Rattle.text_input.specs.declared.lines.DocumentHead.{DocumentHead}
+use Rattle.text_input.specs.declared.lines.SchemaHead.{SchemaHead}
+use Rattle.text_input.specs.declared.lines.SchemaHead.TheVariants as schema
 use Rattle.text_input.specs.declared.rows_left.RowsLeft.{RowsLeft}
 
 -- no row is still to come
 abbrev pub complete : RowsLeft → Bool
 complete left = cond (left.types == 0) (cond (left.fields == 0) (cond (left.definitions == 0) (left.rows == 0) false) false) false
 
+-- no rows at all
+abbrev pub no_rows : RowsLeft
+no_rows =
+    record {
+      types = 0;
+      fields = 0;
+      definitions = 0;
+      rows = 0;
+    }
+
+-- the rows that follow the head of a schema
+abbrev pub rows_of_schema : SchemaHead → RowsLeft
+rows_of_schema schema.Open = no_rows
+rows_of_schema (schema.Table head) = record no_rows { types = head.types; fields = head.fields }
+
+-- the rows that follow the head of a document
+abbrev pub rows_of_document : DocumentHead → RowsLeft
+rows_of_document head = record no_rows { definitions = head.definitions; rows = head.rows }
+
 -- A line with a row takes one from the rows of its kind, any other none.
 abbrev pub after_line : Keyword → RowsLeft → RowsLeft
-after_line keyword.Type left =
-    record {
-      types = left.types - 1;
-      fields = left.fields;
-      definitions = left.definitions;
-      rows = left.rows;
-    }
-after_line keyword.Field left =
-    record {
-      types = left.types;
-      fields = left.fields - 1;
-      definitions = left.definitions;
-      rows = left.rows;
-    }
-after_line keyword.Definition left =
-    record {
-      types = left.types;
-      fields = left.fields;
-      definitions = left.definitions - 1;
-      rows = left.rows;
-    }
-after_line keyword.Row left =
-    record {
-      types = left.types;
-      fields = left.fields;
-      definitions = left.definitions;
-      rows = left.rows - 1;
-    }
+after_line keyword.Type left = record left { types = left.types - 1 }
+after_line keyword.Field left = record left { fields = left.fields - 1 }
+after_line keyword.Definition left = record left { definitions = left.definitions - 1 }
+after_line keyword.Row left = record left { rows = left.rows - 1 }
 after_line keyword.Schema left = left
 after_line keyword.Name left = left
 after_line keyword.Ask left = left

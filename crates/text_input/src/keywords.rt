@@ -1,7 +1,9 @@
-// The keywords with which lines begin, and the form of each line.
+// The keywords with which lines begin, how they are written, and the form of each line.
+use std::fmt;
+use std::str::FromStr;
 
 /// The first word of a line: it says which kind of line this is.
-#[derive(Clone, Copy)]
+#[derive(Clone, Copy, PartialEq, Eq, Debug)]
 pub enum Keyword {
     Schema,
     Type,
@@ -13,25 +15,40 @@ pub enum Keyword {
     Row,
 }
 
-impl Keyword {
-    /// The keyword that is written so, if any is.
-    pub fn of_word(word: &str) -> Option<Keyword> {
+/// The word is no keyword.
+#[derive(Clone, Copy, PartialEq, Eq, Debug)]
+pub struct NoKeyword;
+
+impl FromStr for Keyword {
+    ghost use Rattle.text_input.specs.Keywords.{ReadsKeyword};
+
+    type Err = NoKeyword;
+
+    ghost from_str_gives = { ReadsKeyword };
+
+    fn from_str(word: &str) -> Result<Keyword, NoKeyword> {
         match word {
-            "schema" => Some(Keyword::Schema),
-            "type" => Some(Keyword::Type),
-            "field" => Some(Keyword::Field),
-            "name" => Some(Keyword::Name),
-            "ask" => Some(Keyword::Ask),
-            "doc" => Some(Keyword::Document),
-            "def" => Some(Keyword::Definition),
-            "row" => Some(Keyword::Row),
-            _ => None,
+            "schema" => Ok(Keyword::Schema),
+            "type" => Ok(Keyword::Type),
+            "field" => Ok(Keyword::Field),
+            "name" => Ok(Keyword::Name),
+            "ask" => Ok(Keyword::Ask),
+            "doc" => Ok(Keyword::Document),
+            "def" => Ok(Keyword::Definition),
+            "row" => Ok(Keyword::Row),
+            _ => Err(NoKeyword),
         }
     }
+}
 
-    /// The keyword as it is written.
-    pub fn word(self) -> &'static str {
-        match self {
+impl fmt::Display for Keyword {
+    ghost use Rattle.std.specs.Prelude.{Some};
+    ghost use Rattle.text_input.specs.Keywords.{word_of};
+
+    ghost output = { λ k. Some (word_of k) };
+
+    fn fmt<W: fmt::Write>(&self, f: &mut fmt::Formatter<W>) -> fmt::Result {
+        f.write_str(match self {
             Keyword::Schema => "schema",
             Keyword::Type => "type",
             Keyword::Field => "field",
@@ -40,6 +57,16 @@ impl Keyword {
             Keyword::Document => "doc",
             Keyword::Definition => "def",
             Keyword::Row => "row",
+        })
+    }
+}
+
+impl Keyword {
+    /// Where lines with this keyword are counted, as it is told of a line too many.
+    pub fn counting(self) -> &'static str {
+        match self {
+            Keyword::Definition | Keyword::Row => "no line with doc counts it",
+            _ => "the schema has all that its first line counts",
         }
     }
 

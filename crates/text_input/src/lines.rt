@@ -1,6 +1,5 @@
 // The typed lines, and how each is read from its words after the keyword.
 use crate::keywords::Keyword;
-use crate::name_table::NameTable;
 use crate::problems::Problem;
 use crate::word_list::Words;
 use document::{DefinitionRow, SelectionRow};
@@ -31,6 +30,7 @@ pub enum Line<'a> {
 }
 
 /// How a schema begins.
+// Kept: the open schema is a schema of its own, and `None` would read as a missing one.
 #[derive(Clone, Copy)]
 pub enum SchemaHead {
     /// The open schema, which has no rows.
@@ -39,25 +39,20 @@ pub enum SchemaHead {
     Table(TableHead),
 }
 
-/// How many rows of a table follow, and the names of its root types, 0 for none.
-#[derive(Clone, Copy)]
+/// How many rows of a table follow, and its root types.
+#[derive(Clone, Copy, PartialEq, Eq, Default, Debug)]
 pub struct TableHead {
     pub types: u32,
     pub fields: u32,
+    pub roots: RootTypes,
+}
+
+/// The names of a table's root types, 0 for none.
+#[derive(Clone, Copy, PartialEq, Eq, Default, Debug)]
+pub struct RootTypes {
     pub query: Name,
     pub mutation: Name,
     pub subscription: Name,
-}
-
-impl TableHead {
-    /// Whether all five numbers are 0.
-    fn is_zero(self) -> bool {
-        self.types == 0
-            && self.fields == 0
-            && self.query == 0
-            && self.mutation == 0
-            && self.subscription == 0
-    }
 }
 
 /// Whether a document is read strictly, and how many rows of its two tables follow.
@@ -69,86 +64,75 @@ pub struct DocumentHead {
 }
 
 /// The line with this keyword.
-pub fn read_line<'a>(
-    keyword: Keyword,
-    words: &mut Words<'a>,
-    names: &NameTable<'a>,
-) -> Result<Line<'a>, Problem<'a>> {
+pub fn read_line<'a>(keyword: Keyword, words: &mut Words<'_, 'a>) -> Result<Line<'a>, Problem<'a>> {
     match keyword {
-        Keyword::Schema => Ok(Line::Schema(read_schema(words, names)?)),
-        Keyword::Type => Ok(Line::Type(read_type(words, names)?)),
-        Keyword::Field => Ok(Line::Field(read_field(words, names)?)),
-        Keyword::Name => read_name(words, names),
-        Keyword::Ask => Ok(Line::Ask(read_question(words, names)?)),
+        Keyword::Schema => Ok(Line::Schema(read_schema(words)?)),
+        Keyword::Type => Ok(Line::Type(read_type(words)?)),
+        Keyword::Field => Ok(Line::Field(read_field(words)?)),
+        Keyword::Name => read_name(words),
+        Keyword::Ask => Ok(Line::Ask(read_question(words)?)),
         Keyword::Document => Ok(Line::Document(read_document(words)?)),
-        Keyword::Definition => Ok(Line::Definition(read_definition(words, names)?)),
-        Keyword::Row => Ok(Line::Row(read_row(words, names)?)),
+        Keyword::Definition => Ok(Line::Definition(read_definition(words)?)),
+        Keyword::Row => Ok(Line::Row(read_row(words)?)),
     }
 }
 
 /// `KIND NTYPES NFIELDS QUERY MUTATION SUBSCRIPTION`
-fn read_schema<'a>(
-    words: &mut Words<'a>,
-    names: &NameTable<'a>,
-) -> Result<SchemaHead, Problem<'a>> {
+fn read_schema<'a>(words: &mut Words<'_, 'a>) -> Result<SchemaHead, Problem<'a>> {
     match words.number()? {
         0 => {
-            let head = read_head(words, names)?;
-            if head.is_zero() {
+            let head = read_head(words)?;
+            if head == TableHead::default() {
                 Ok(SchemaHead::Open)
             } else {
                 Err(Problem::OpenWithRows)
             }
         }
-        1 => Ok(SchemaHead::Table(read_head(words, names)?)),
+        1 => Ok(SchemaHead::Table(read_head(words)?)),
         kind => Err(Problem::UnknownSchemaKind(kind)),
     }
 }
 
 /// `NTYPES NFIELDS QUERY MUTATION SUBSCRIPTION`
-fn read_head<'a>(words: &mut Words<'a>, names: &NameTable<'a>) -> Result<TableHead, Problem<'a>> {
-    let types = words.number()?;
-    let fields = words.number()?;
-    let query = words.name(names)?;
-    let mutation = words.name(names)?;
-    let subscription = words.name(names)?;
+fn read_head<'a>(words: &mut Words<'_, 'a>) -> Result<TableHead, Problem<'a>> {
     Ok(TableHead {
-        types,
-        fields,
-        query,
-        mutation,
-        subscription,
+        types: words.number()?,
+        fields: words.number()?,
+        roots: RootTypes {
+            query: words.name()?,
+            mutation: words.name()?,
+            subscription: words.name()?,
+        },
     })
 }
 
 /// `NAME KIND`
-fn read_type<'a>(words: &mut Words<'a>, names: &NameTable<'a>) -> Result<TypeRow, Problem<'a>> {
-    let name = words.name(names)?;
-    let kind = words.number()?;
-    Ok(TypeRow { name, kind })
+fn read_type<'a>(words: &mut Words<'_, 'a>) -> Result<TypeRow, Problem<'a>> {
+    Ok(TypeRow {
+        name: words.name()?,
+        kind: words.number()?,
+    })
 }
 
 /// `OWNER NAME INNER`
-fn read_field<'a>(words: &mut Words<'a>, names: &NameTable<'a>) -> Result<FieldRow, Problem<'a>> {
-    let owner = words.name(names)?;
-    let name = words.name(names)?;
-    let inner = words.name(names)?;
-    Ok(FieldRow { owner, name, inner })
+fn read_field<'a>(words: &mut Words<'_, 'a>) -> Result<FieldRow, Problem<'a>> {
+    Ok(FieldRow {
+        owner: words.name()?,
+        name: words.name()?,
+        inner: words.name()?,
+    })
 }
 
 /// `NUMBER TEXT`
-fn read_name<'a>(words: &mut Words<'a>, names: &NameTable<'a>) -> Result<Line<'a>, Problem<'a>> {
+fn read_name<'a>(words: &mut Words<'_, 'a>) -> Result<Line<'a>, Problem<'a>> {
     let number = words.number()?;
     let text = words.word()?;
-    names.allow(number, text)?;
+    words.names().allow(number, text)?;
     Ok(Line::Name(number, text))
 }
 
 /// `root OPERATION`, `known TYPE`, `kind TYPE` or `field TYPE FIELD`
-fn read_question<'a>(
-    words: &mut Words<'a>,
-    names: &NameTable<'a>,
-) -> Result<Question, Problem<'a>> {
+fn read_question<'a>(words: &mut Words<'_, 'a>) -> Result<Question, Problem<'a>> {
     match words.word()? {
         "root" => {
             words.take_form("ask root OPERATION");
@@ -156,23 +140,22 @@ fn read_question<'a>(
         }
         "known" => {
             words.take_form("ask known TYPE");
-            Ok(Question::Known(words.name(names)?))
+            Ok(Question::Known(words.name()?))
         }
         "kind" => {
             words.take_form("ask kind TYPE");
-            Ok(Question::Kind(words.name(names)?))
+            Ok(Question::Kind(words.name()?))
         }
         "field" => {
             words.take_form("ask field TYPE FIELD");
-            let owner = words.name(names)?;
-            Ok(Question::Field(owner, words.name(names)?))
+            Ok(Question::Field(words.name()?, words.name()?))
         }
         word => Err(Problem::UnknownQuestion(word)),
     }
 }
 
 /// `query`, `mutation` or `subscription`, or the number 0, 1 or 2
-fn read_operation<'a>(words: &mut Words<'a>) -> Result<OperationType, Problem<'a>> {
+fn read_operation<'a>(words: &mut Words<'_, 'a>) -> Result<OperationType, Problem<'a>> {
     match words.word()? {
         "query" | "0" => Ok(OperationType::Query),
         "mutation" | "1" => Ok(OperationType::Mutation),
@@ -182,10 +165,10 @@ fn read_operation<'a>(words: &mut Words<'a>) -> Result<OperationType, Problem<'a
 }
 
 /// `STRICT NDEFS NROWS`
-fn read_document<'a>(words: &mut Words<'a>) -> Result<DocumentHead, Problem<'a>> {
-    let mut numbers = [0; 3];
-    words.numbers(&mut numbers)?;
-    let [strict, definitions, rows] = numbers;
+fn read_document<'a>(words: &mut Words<'_, 'a>) -> Result<DocumentHead, Problem<'a>> {
+    let strict = words.number()?;
+    let definitions = words.number()?;
+    let rows = words.number()?;
     if strict > 1 {
         return Err(Problem::UnknownStrictness(strict));
     }
@@ -197,66 +180,34 @@ fn read_document<'a>(words: &mut Words<'a>) -> Result<DocumentHead, Problem<'a>>
 }
 
 /// `KIND OPTYPE NAME CONDITION VARIABLES DIRECTIVES LOCATION NAMELOC CONDLOC FIRST END`
-fn read_definition<'a>(
-    words: &mut Words<'a>,
-    names: &NameTable<'a>,
-) -> Result<DefinitionRow, Problem<'a>> {
-    let kind = words.number()?;
-    let operation_type = words.number()?;
-    let name = words.name(names)?;
-    let condition = words.name(names)?;
-    let mut numbers = [0; 7];
-    words.numbers(&mut numbers)?;
-    let [
-        variables,
-        directives,
-        location,
-        name_location,
-        condition_location,
-        first,
-        end,
-    ] = numbers;
+fn read_definition<'a>(words: &mut Words<'_, 'a>) -> Result<DefinitionRow, Problem<'a>> {
     Ok(DefinitionRow {
-        kind,
-        operation_type,
-        name,
-        condition,
-        variables,
-        directives,
-        location,
-        name_location,
-        condition_location,
-        first,
-        end,
+        kind: words.number()?,
+        operation_type: words.number()?,
+        name: words.name()?,
+        condition: words.name()?,
+        variables: words.number()?,
+        directives: words.number()?,
+        location: words.number()?,
+        name_location: words.number()?,
+        condition_location: words.number()?,
+        first: words.number()?,
+        end: words.number()?,
     })
 }
 
 /// `KIND NAME ALIAS CONDITION ARGUMENTS DIRECTIVES LOCATION NAMELOC CONDLOC END`
-fn read_row<'a>(words: &mut Words<'a>, names: &NameTable<'a>) -> Result<SelectionRow, Problem<'a>> {
-    let kind = words.number()?;
-    let name = words.name(names)?;
-    let alias = words.name(names)?;
-    let condition = words.name(names)?;
-    let mut numbers = [0; 6];
-    words.numbers(&mut numbers)?;
-    let [
-        arguments,
-        directives,
-        location,
-        name_location,
-        condition_location,
-        end,
-    ] = numbers;
+fn read_row<'a>(words: &mut Words<'_, 'a>) -> Result<SelectionRow, Problem<'a>> {
     Ok(SelectionRow {
-        kind,
-        name,
-        alias,
-        condition,
-        arguments,
-        directives,
-        location,
-        name_location,
-        condition_location,
-        end,
+        kind: words.number()?,
+        name: words.name()?,
+        alias: words.name()?,
+        condition: words.name()?,
+        arguments: words.number()?,
+        directives: words.number()?,
+        location: words.number()?,
+        name_location: words.number()?,
+        condition_location: words.number()?,
+        end: words.number()?,
     })
 }

@@ -1,7 +1,7 @@
 // The texts of names: the fixed names have theirs from the start, the others by the lines that give them one.
 use crate::problems::Problem;
-use schema::names::{QUERY, UNKNOWN};
-use schema::{Name, fixed_name};
+use schema::Name;
+use schema::names::{FIXED_NAMES, QUERY, UNKNOWN};
 use std::alloc::{AllocError, Global};
 use std::collections::BTreeMap;
 use std::fmt;
@@ -20,10 +20,8 @@ impl<'a> NameTable<'a> {
             texts: BTreeMap::new(heap),
             numbers: BTreeMap::new(heap),
         };
-        for number in QUERY..=UNKNOWN {
-            if let Some(text) = fixed_text(number) {
-                table.give(number, text)?;
-            }
+        for (number, text) in (QUERY..=UNKNOWN).zip(FIXED_NAMES) {
+            table.give(number, text)?;
         }
         Ok(table)
     }
@@ -40,10 +38,8 @@ impl<'a> NameTable<'a> {
 
     /// The name as it is printed.
     pub fn show(&self, name: Name) -> ShownName<'a> {
-        match self.text_of(name) {
-            Some(text) => ShownName::Text(text),
-            None => ShownName::Number(name),
-        }
+        self.text_of(name)
+            .map_or(ShownName::Number(name), ShownName::Text)
     }
 
     /// Refuses to give the name the text where one of them is taken, or where the text would be read as a number.
@@ -69,20 +65,11 @@ impl<'a> NameTable<'a> {
     }
 }
 
-/// The text of a fixed name, for as long as the other texts are lent.
-fn fixed_text<'a>(number: Name) -> Option<&'a str> {
-    match fixed_name(number) {
-        Some(text) => Some(text),
-        None => None,
-    }
-}
-
 /// Whether the word is to be read as a number.
 pub(crate) fn begins_with_digit(word: &str) -> bool {
-    match word.as_bytes().first() {
-        Some(byte) => byte.is_ascii_digit(),
-        None => false,
-    }
+    word.as_bytes()
+        .first()
+        .is_some_and(|byte| byte.is_ascii_digit())
 }
 
 /// A name as it is printed: its text, or its number after `#`.

@@ -4,48 +4,23 @@ ghost use Rattle.text_input.specs.Places.{may_stand};
 
 use crate::keywords::Keyword;
 use crate::rows_left::RowsLeft;
-use std::fmt;
+use thiserror::Error;
 
 /// Why a line may not stand where it does, or the text may not end where it does.
-#[derive(Clone, Copy)]
+#[derive(Clone, Copy, Debug, Error)]
 pub enum Misplaced {
     /// A line that belongs to a schema stands before the first one.
+    #[error("a line with {0} belongs to a schema: begin one first")]
     NoSchemaYet(Keyword),
     /// A row more than the schema or the document has.
+    #[error("a {0} too many: {counting}", counting = .0.counting())]
     TooManyRows(Keyword),
     /// The line stands where rows are still to come.
+    #[error("a line with {0} comes too soon; still to come: {1}")]
     RowsMissing(Keyword, RowsLeft),
     /// The text ends where rows are still to come.
+    #[error("the text ends too soon; still to come: {0}")]
     EndsEarly(RowsLeft),
-}
-
-impl fmt::Display for Misplaced {
-    fn fmt<W: fmt::Write>(&self, f: &mut fmt::Formatter<W>) -> fmt::Result {
-        match *self {
-            Misplaced::NoSchemaYet(keyword) => {
-                let word = keyword.word();
-                write!(f, "a line with {word} belongs to a schema: begin one first")
-            }
-            Misplaced::TooManyRows(keyword) => {
-                let word = keyword.word();
-                let counting = match keyword {
-                    Keyword::Definition | Keyword::Row => "no line with doc counts it",
-                    _ => "the schema has all that its first line counts",
-                };
-                write!(f, "a {word} too many: {counting}")
-            }
-            Misplaced::RowsMissing(keyword, left) => {
-                let word = keyword.word();
-                write!(
-                    f,
-                    "a line with {word} comes too soon; still to come: {left}"
-                )
-            }
-            Misplaced::EndsEarly(left) => {
-                write!(f, "the text ends too soon; still to come: {left}")
-            }
-        }
-    }
 }
 
 /// Refuses a line that may not stand where these rows are left, or before any schema. First come the types, then the

@@ -3,10 +3,11 @@ ghost use Rattle.std.specs.Prelude.{◌≡◌};
 ghost use Rattle.text_input.specs.Places.{complete, after_line};
 
 use crate::keywords::Keyword;
+use crate::lines::{DocumentHead, SchemaHead};
 use std::fmt;
 
 /// The rows that are still to come: a schema's types and fields, or a document's definitions and rows.
-#[derive(Clone, Copy)]
+#[derive(Clone, Copy, PartialEq, Eq, Default, Debug)]
 pub struct RowsLeft {
     pub types: u32,
     pub fields: u32,
@@ -19,22 +20,65 @@ impl RowsLeft {
     pub fn is_complete(self) -> bool
         ensures { result ≡ complete self }
     {
-        self.types == 0 && self.fields == 0 && self.definitions == 0 && self.rows == 0
+        self == RowsLeft::default()
     }
 
     /// What is left after a line with this keyword.
     pub fn after(self, keyword: Keyword) -> RowsLeft
         ensures { result ≡ after_line keyword self }
     {
-        let mut left = self;
         match keyword {
-            Keyword::Type => left.types = left.types.saturating_sub(1),
-            Keyword::Field => left.fields = left.fields.saturating_sub(1),
-            Keyword::Definition => left.definitions = left.definitions.saturating_sub(1),
-            Keyword::Row => left.rows = left.rows.saturating_sub(1),
-            _ => {}
+            Keyword::Type => RowsLeft {
+                types: self.types.saturating_sub(1),
+                ..self
+            },
+            Keyword::Field => RowsLeft {
+                fields: self.fields.saturating_sub(1),
+                ..self
+            },
+            Keyword::Definition => RowsLeft {
+                definitions: self.definitions.saturating_sub(1),
+                ..self
+            },
+            Keyword::Row => RowsLeft {
+                rows: self.rows.saturating_sub(1),
+                ..self
+            },
+            Keyword::Schema | Keyword::Name | Keyword::Ask | Keyword::Document => self,
         }
-        left
+    }
+}
+
+impl From<SchemaHead> for RowsLeft {
+    ghost use Rattle.std.specs.Prelude.{◌≡◌};
+    ghost use Rattle.text_input.specs.Places.{rows_of_schema};
+
+    ghost from_gives = { λ head left. left ≡ rows_of_schema head };
+
+    fn from(head: SchemaHead) -> RowsLeft {
+        match head {
+            SchemaHead::Open => RowsLeft::default(),
+            SchemaHead::Table(head) => RowsLeft {
+                types: head.types,
+                fields: head.fields,
+                ..RowsLeft::default()
+            },
+        }
+    }
+}
+
+impl From<DocumentHead> for RowsLeft {
+    ghost use Rattle.std.specs.Prelude.{◌≡◌};
+    ghost use Rattle.text_input.specs.Places.{rows_of_document};
+
+    ghost from_gives = { λ head left. left ≡ rows_of_document head };
+
+    fn from(head: DocumentHead) -> RowsLeft {
+        RowsLeft {
+            definitions: head.definitions,
+            rows: head.rows,
+            ..RowsLeft::default()
+        }
     }
 }
 
@@ -46,15 +90,12 @@ impl fmt::Display for RowsLeft {
             Counted(u64::from(self.definitions), "definition"),
             Counted(u64::from(self.rows), "row"),
         ];
-        let mut follows = false;
+        let mut parts = parts.iter().filter(|part| part.0 > 0);
+        if let Some(first) = parts.next() {
+            write!(f, "{first}")?;
+        }
         for part in parts {
-            if part.0 > 0 {
-                if follows {
-                    write!(f, " and ")?;
-                }
-                write!(f, "{part}")?;
-                follows = true;
-            }
+            write!(f, " and {part}")?;
         }
         Ok(())
     }

@@ -5,20 +5,27 @@ use schema::Name;
 use std::num::IntErrorKind;
 use std::str::SplitWhitespace;
 
-/// The words of a line that are still to be read; a comment is none of them.
+/// The words of a line that are still to be read, and the names that they can tell; a comment is none of the words.
 #[derive(Drop)]
-pub struct Words<'a> {
+pub struct Words<'n, 'a> {
     rest: SplitWhitespace<'a>,
     form: &'static str,
+    names: &'n NameTable<'a>,
 }
 
-impl<'a> Words<'a> {
+impl<'n, 'a> Words<'n, 'a> {
     /// All words of the line.
-    pub fn of_line(line: &'a str) -> Words<'a> {
+    pub fn of_line(line: &'a str, names: &'n NameTable<'a>) -> Words<'n, 'a> {
         Words {
             rest: line.split_whitespace(),
             form: "KEYWORD ..",
+            names,
         }
+    }
+
+    /// The names that were given before this line.
+    pub fn names(&self) -> &'n NameTable<'a> {
+        self.names
     }
 
     /// From here on, errors tell this form of the line.
@@ -38,10 +45,7 @@ impl<'a> Words<'a> {
 
     /// The next word, which has to be there.
     pub fn word(&mut self) -> Result<&'a str, Problem<'a>> {
-        match self.next_word() {
-            Some(word) => Ok(word),
-            None => Err(Problem::TooFewWords(self.form)),
-        }
+        self.next_word().ok_or(Problem::TooFewWords(self.form))
     }
 
     /// The next word as a number.
@@ -50,24 +54,13 @@ impl<'a> Words<'a> {
         read_number(word)
     }
 
-    /// The next words as numbers, one for each place.
-    pub fn numbers(&mut self, places: &mut [u32]) -> Result<(), Problem<'a>> {
-        for place in places.iter_mut() {
-            *place = self.number()?;
-        }
-        Ok(())
-    }
-
     /// The next word as a name: its number, or a text that was given to it.
-    pub fn name(&mut self, names: &NameTable<'a>) -> Result<Name, Problem<'a>> {
+    pub fn name(&mut self) -> Result<Name, Problem<'a>> {
         let word = self.word()?;
         if begins_with_digit(word) {
             return read_number(word);
         }
-        match names.name_of(word) {
-            Some(name) => Ok(name),
-            None => Err(Problem::UnknownName(word)),
-        }
+        self.names.name_of(word).ok_or(Problem::UnknownName(word))
     }
 
     /// Refuses words that are left over.
@@ -80,15 +73,12 @@ impl<'a> Words<'a> {
 }
 
 /// The number that the word writes in decimal digits.
-fn read_number<'a>(word: &'a str) -> Result<u32, Problem<'a>> {
+fn read_number(word: &str) -> Result<u32, Problem<'_>> {
     if !begins_with_digit(word) {
         return Err(Problem::NotANumber(word));
     }
-    match word.parse::<u32>() {
-        Ok(number) => Ok(number),
-        Err(error) => match error.kind() {
-            IntErrorKind::PosOverflow => Err(Problem::NumberTooLarge(word)),
-            _ => Err(Problem::NotANumber(word)),
-        },
-    }
+    word.parse::<u32>().map_err(|error| match error.kind() {
+        IntErrorKind::PosOverflow => Problem::NumberTooLarge(word),
+        _ => Problem::NotANumber(word),
+    })
 }
