@@ -1,5 +1,7 @@
 -- The entries of rows: one more, where one is found, and what it answers.
-use Rattle.std.proofs.Common.{◌≡◌, ℕ, zero, suc, ◌+◌, ◌<◌, Bool, true, false, cond, ◌&&◌, ◌||◌, eqb, List, [], ◌∷◌, ◌++◌, map, length, replicate, get_or, take, is_some, Some, None, Ok, Err, Option, refl, ap, ◌∙◌, arith}
+use Rattle.std.proofs.Common.{◌≡◌, ℕ, zero, suc, ◌+◌, ◌<◌, Bool, true, false, cond, ◌&&◌, ◌||◌, eqb, List, [], ◌∷◌, ◌++◌, map, length, replicate, get_or, take, is_some, Some, None, Ok, Err, Option, slice_get, sym, refl, ap, ◌∙◌, arith}
+use Rattle.std.specs.Option.{option_and_then}
+use Rattle.std.proofs.lemmas.Option.{slice_get-get_or}
 use Rattle.std.proofs.lemmas.List.{take_more, length-take-le, length-replicate}
 use Rattle.table_schema.specs.declared.rows.FieldRow.{FieldRow}
 use Rattle.std.proofs.lemmas.Bool.{false≢true, and_from, eq-eqb}
@@ -14,7 +16,7 @@ use Rattle.table_schema.specs.declared.fault.SchemaFault.TheVariants.{OverLimit,
 use Rattle.table_schema.specs.Keys.{field_key, row_key, entry_key}
 use Rattle.table_schema.specs.Meaning.{no_field, named, owns, known_type, kind_there, kind_of, field_there, field_of}
 use Rattle.refusal.specs.Firsts.{verdict_of}
-use Rattle.table_schema.specs.Verdict.{owns_fields, field_fault_at, types_fault, fields_fault, rows_fault, over_limit, zeros, empty_index, index_fault}
+use Rattle.table_schema.specs.Verdict.{owns_fields, field_fault, fault_at, types_fault, fields_fault, rows_fault, over_limit, zeros, empty_index, index_fault}
 use Rattle.table_schema.specs.Table.{schema_fault}
 use Rattle.table_schema.specs.Found.{first_with}
 use Rattle.table_schema.specs.Kept.{no_entry, entry_told, kept_field, entry_of, entries_from, OwnersKnown}
@@ -84,8 +86,10 @@ pub owners_known : (types : List TypeRow) (rows : List FieldRow) → rows_fault 
 owners_known types rows none i low =
     let inside : i < length rows = omega (arith, entries_length 0 rows) in
     let row = get_or rows i no_field in
-    let fine : field_fault_at types rows i ≡ None =
-    ap (field_fault_at types rows) (omega arith) ∙ no_fault InFields (field_fault_at types rows) 0 (length rows) (or_else_none (types_fault types) (fields_fault types rows) none).1 i inside in
+    let here : slice_get rows i ≡ Some row = slice_get-get_or rows i no_field inside in
+    let fine : field_fault types (take i rows) row ≡ None =
+    ap (option_and_then (field_fault types (take i rows))) (sym here) ∙ ap (fault_at (field_fault types) rows) (omega arith)
+    ∙ no_fault InFields (fault_at (field_fault types) rows) 0 (length rows) (or_else_none (types_fault types) (fields_fault types rows) none).1 i inside in
     let owner : (get_or (entries_from 0 rows) i no_entry).key.owner ≡ row.owner = ap (λ e. e.key.owner) (entry_at 0 rows i inside) in
     ap (known_type types) owner ∙ kind_known types (first_place (named row.owner) types 0) (last_none (eqb row.owner 0 || (eqb row.name 0 || eqb row.inner 0)) (is_some (first_place (owns row.owner row.name) (take i rows) 0)) (owns_fields (kind_of types row.owner)) fine)
 

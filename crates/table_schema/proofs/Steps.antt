@@ -1,6 +1,5 @@
 -- What the checks stand on: a verdict told as a fault or none, and slots that hold nothing.
-use Rattle.std.proofs.Common.{◌≡◌, ℕ, ◌/◌, ◌^◌, min, Bool, true, eqb, List, [], ◌∷◌, length, get_or, replicate, Some, None, Ok, Err, Option, sym, refl, ap, ◌∙◌}
-use Rattle.std.proofs.lemmas.List.{get_or-replicate}
+use Rattle.std.proofs.Common.{◌≡◌, ℕ, ◌/◌, ◌^◌, min, Bool, true, eqb, List, [], ◌∷◌, length, replicate, Some, None, Ok, Err, Option, sym, refl, ap, ◌∙◌, subst}
 use Rattle.std.proofs.lemmas.Bool.{and_parts, eqb-true}
 use Rattle.refusal.specs.Firsts.{verdict_of}
 use Rattle.ordered_index.specs.Slots.{limit}
@@ -34,8 +33,7 @@ pub fresh : {K : Type 0} (equal : K → K → Bool) (digest : K → ℕ) (slots 
 fresh equal digest slots size k power all =
     let both = and_parts (eqb (length slots) size) (zeros slots) all in
     let long : length slots ≡ size = eqb-true (length slots) size both.0 in
-    sound_none equal digest slots (k, long ∙ power)
-    (λ i low. ap (λ xs. get_or xs i 0) (zeros_all slots both.1) ∙ get_or-replicate (length slots) i 0 0 low)
+    subst (λ (xs : List ℕ). Sound equal digest [] xs) (sym (zeros_all slots both.1)) (sound_none equal digest (length slots) (k, long ∙ power))
 
 -- emptied again they are as they were
 pub emptied : (slots now : List ℕ) (size n : ℕ) → empty_index size slots ≡ true → n ≡ length slots → now ≡ replicate n 0 → now ≡ slots
