@@ -9,7 +9,7 @@ use schema::{FieldLookupError, MetaLayer, Name, OperationType, Schema, names};
 use std::alloc::{AllocError, Global};
 use std::io;
 use std::time::{Duration, Instant};
-use table_schema::{FieldRow, SchemaRows, TableSchema, TypeRow};
+use table_schema::{FieldRow, RootTypes, SchemaRows, TableSchema, TypeRow};
 
 const TYPES: u32 = 1024;
 
@@ -64,9 +64,11 @@ fn make<'a>(
     let rows = SchemaRows {
         types,
         fields,
-        query: FIRST_TYPE,
-        mutation: FIRST_TYPE + 1,
-        subscription: 0,
+        roots: RootTypes {
+            query: FIRST_TYPE,
+            mutation: FIRST_TYPE + 1,
+            subscription: 0,
+        },
     };
     match TableSchema::new(heap, &rows) {
         Ok(schema) => Ok(schema),

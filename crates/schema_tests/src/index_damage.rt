@@ -141,8 +141,14 @@ fn no_way_to_a_slot(rt: HostRuntime) {
     let mut entries = [Named { name: 5 }; 4];
     let mut slots = [1u32, 9, 1, u32::MAX];
     assert_eq!(rt; find(&entries[..1], &slots, &6), None);
-    assert_eq!(rt; insert(&mut entries, 1, &mut slots, Named { name: 6 }), Entered::Full);
-    assert_eq!(rt; insert(&mut entries, 1, &mut [], Named { name: 6 }), Entered::Full);
+    assert_eq!(rt;
+        insert(&mut entries, 1, &mut slots, Named { name: 6 }),
+        Entered::Full
+    );
+    assert_eq!(rt;
+        insert(&mut entries, 1, &mut [], Named { name: 6 }),
+        Entered::Full
+    );
     assert_eq!(rt; slots, [1, 9, 1, u32::MAX]);
     empty::<Named>(&mut slots);
     assert_eq!(rt; slots, [0, 0, 0, 0]);
@@ -156,9 +162,15 @@ fn no_entry_left(rt: HostRuntime) -> Result<(), Fail> {
     let mut entries = new;
     let mut slots = [0u32; 8];
     fill(&rt, &mut entries, &mut slots, &new)?;
-    assert_eq!(rt; insert(&mut entries, 2, &mut slots, Named { name: 2 }), Entered::Full);
+    assert_eq!(rt;
+        insert(&mut entries, 2, &mut slots, Named { name: 2 }),
+        Entered::Full
+    );
     assert_eq!(rt; slots, [1, 0, 0, 0, 0, 0, 0, 2]);
-    assert_eq!(rt; insert(&mut entries, 3, &mut slots, Named { name: 2 }), Entered::Full);
+    assert_eq!(rt;
+        insert(&mut entries, 3, &mut slots, Named { name: 2 }),
+        Entered::Full
+    );
     assert_eq!(rt; slots, [1, 0, 0, 0, 0, 0, 0, 2]);
     assert_eq!(rt; enter(&entries, &mut slots, &2), Entered::Added(2));
     assert_eq!(rt; slots, [1, 0, 0, 0, 0, 0, 3, 2]);

@@ -70,7 +70,12 @@ pub fn fill<E: Entry>(
 ) -> Result<(), Fail> {
     assert!(rt; agrees(&entries[..0], slots));
     for i in 0..new.len() {
-        assert_eq!(rt; insert(entries, i, slots, new[i]), Entered::Added(i), "{}", i);
+        assert_eq!(rt;
+            insert(entries, i, slots, new[i]),
+            Entered::Added(i),
+            "{}",
+            i
+        );
         assert!(rt; agrees(&entries[..i + 1], slots), "{}", i);
     }
     Ok(())
@@ -89,8 +94,18 @@ fn each_at_its_place<E: Entry>(
         let key = present[i].key();
         assert_eq!(rt; find(&entries[..count], slots, &key), Some(i), "{}", i);
         assert_eq!(rt; find(&entries[..i], slots, &key), None, "{}", i);
-        assert_eq!(rt; insert(entries, count, slots, present[i]), Entered::Present(i), "{}", i);
-        assert_eq!(rt; enter(&entries[..count], slots, &key), Entered::Present(i), "{}", i);
+        assert_eq!(rt;
+            insert(entries, count, slots, present[i]),
+            Entered::Present(i),
+            "{}",
+            i
+        );
+        assert_eq!(rt;
+            enter(&entries[..count], slots, &key),
+            Entered::Present(i),
+            "{}",
+            i
+        );
     }
 }
 

@@ -7,6 +7,7 @@ use refusal::Layer;
 use std::alloc::Global;
 use std::process::Abort;
 use std::test::Fail;
+use table_schema::{RowFault, SchemaFault};
 
 // Types by name and kind, fields by owner, name and inner type, and the refusal by number and row, 0 and 0 for none.
 type Case = (
@@ -173,6 +174,42 @@ fn sizes(rt: HostRuntime) -> Result<(), Fail> {
     ];
     for (types, fields, damaged, number, row) in cases {
         sized(&rt, rt.alloc(), types, fields, damaged, number, row)?;
+    }
+    Ok(())
+}
+
+// Each fault in words.
+#[test]
+fn faults_in_words(rt: HostRuntime) -> Result<(), Fail> {
+    let cases = [
+        (
+            SchemaFault::OverLimit,
+            "it has more types or fields than a schema holds",
+        ),
+        (
+            SchemaFault::SlotsUnfit,
+            "the slots that were lent do not fit it",
+        ),
+        (
+            SchemaFault::InTypes(RowFault::NameMissing, 1),
+            "type 1 lacks a name",
+        ),
+        (
+            SchemaFault::InTypes(RowFault::KindUnknown, 1024),
+            "type 1024 is of no known kind",
+        ),
+        (
+            SchemaFault::InFields(RowFault::Repeated, 2),
+            "field 2 comes twice",
+        ),
+        (
+            SchemaFault::InFields(RowFault::OwnerUnfit, 4096),
+            "field 4096 is in no object or interface of the schema",
+        ),
+    ];
+    for (fault, words) in cases {
+        let told = format!(in rt.alloc(); "{fault}")?;
+        assert_eq!(rt; told.as_str(), words);
     }
     Ok(())
 }

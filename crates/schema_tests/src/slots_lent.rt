@@ -90,10 +90,7 @@ fn slots_lent_twice(rt: HostRuntime) -> Result<(), Fail> {
     let types_filled = type_slots.as_slice().to_vec(rt.alloc())?;
     let fields_filled = field_slots.as_slice().to_vec(rt.alloc())?;
     let second = refused(index_rows(&rows, type_slots.as_mut_slice(), field_slots.as_mut_slice()));
-    assert_eq!(rt;
-        second,
-        Some((15, Layer::Schema, 0))
-    );
+    assert_eq!(rt; second, Some((15, Layer::Schema, 0)));
     assert!(rt; type_slots == types_filled && field_slots == fields_filled);
     Ok(())
 }
