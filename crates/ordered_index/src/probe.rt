@@ -6,6 +6,7 @@ ghost use Rattle.ordered_index.specs.Probing.{probe_for};
 use crate::key::{Entry, Key};
 
 // Where a probe ends: at the key's place, at an empty slot, or with every slot looked at.
+// Kept: no `Option` or `Result` has these three cases, and only an empty slot can take a new key.
 #[derive(Clone, Copy)]
 pub enum Probed {
     Found(usize),
@@ -42,10 +43,8 @@ pub fn probe<E: Entry>(entries: &[E], slots: &[u32], key: &E::Of) -> Probed
         if held == 0 {
             return Probed::Vacant(at);
         }
-        if held <= entries.len() {
-            if entries[held - 1].key() == *key {
-                return Probed::Found(held - 1);
-            }
+        if held <= entries.len() && entries[held - 1].key() == *key {
+            return Probed::Found(held - 1);
         }
         at = next_slot(at, size);
     }

@@ -12,31 +12,41 @@ use Rattle.ordered_index.proofs.Enters.{located}
 use Rattle.table_schema.specs.declared.rows.TypeRow.{TypeRow}
 use Rattle.table_schema.specs.declared.rows.FieldEntry.{FieldEntry}
 use Rattle.table_schema.specs.Keys.{field_key, entry_key}
-use Rattle.table_schema.specs.Found.{place_with, first_with, KeysFound}
+use Rattle.table_schema.specs.Found.{place_with, first_that, first_with, KeysFound}
 use Rattle.table_schema.specs.Meaning.{known_type}
 use Rattle.table_schema.specs.Kept.{no_entry, OwnersKnown}
 
--- what is found lies within, and passes
-pub first_hit : {X : Type 0} (p : X → Bool) (xs : List X) (k n : ℕ) (d : X) → first_place p xs k ≡ Some n
-    → (m : ℕ) × (n ≡ k + m) × (m < length xs) × (p (get_or xs m d) ≡ true)
-first_hit p [] k n d is = let z : ◌≡◌ {A = ℕ} 0 1 = cc in absurd (omega arith)
-first_hit p (x ∷ xs) k n d is =
-    ⊎_elim
-    (λ (here : p x ≡ true).
-    let found : Some k ≡ Some n = sym (cond-true _ _ _ here) ∙ is in
-    let at : k ≡ n = cc in
-    (0, omega arith, omega arith, here))
-    (λ (past : p x ≡ false).
-    let later = first_hit p xs (k + 1) n d (sym (cond-false _ _ _ past) ∙ is) in
-    (suc later.0, omega (arith, later.1), omega (arith, later.2), later.3))
-    (cases_Bool (p x))
+-- the first element that passes, and its place
+module _ {X : Type 0} (p : X → Bool) where
+  none_from : (xs : List X) (k : ℕ) → first_place p xs k ≡ None → first_that p xs ≡ None
+  none_from [] k is = refl
+  none_from (x ∷ xs) k is =
+      ⊎_elim
+      (λ (here : p x ≡ true). let bad : Some k ≡ None = sym (cond-true _ _ _ here) ∙ is in let z : ◌≡◌ {A = ℕ} 0 1 = cc in absurd (omega arith))
+      (λ (past : p x ≡ false). cond-false _ _ _ past ∙ none_from xs (k + 1) (sym (cond-false _ _ _ past) ∙ is))
+      (cases_Bool (p x))
 
--- the same counted from 0
-pub first_at : {X : Type 0} (p : X → Bool) (xs : List X) (n : ℕ) (d : X) → first_place p xs 0 ≡ Some n → (n < length xs) × (p (get_or xs n d) ≡ true)
-first_at p xs n d is =
-    let hit = first_hit p xs 0 n d is in
-    let at : hit.0 ≡ n = omega (arith, hit.1) in
-    (omega (arith, hit.2), ap (λ m. p (get_or xs m d)) (sym at) ∙ hit.3)
+  some_from : (xs : List X) (k n : ℕ) (d : X) → first_place p xs k ≡ Some n
+      → (m : ℕ) × (n ≡ k + m) × (m < length xs) × (p (get_or xs m d) ≡ true) × (first_that p xs ≡ Some (get_or xs m d))
+  some_from [] k n d is = let z : ◌≡◌ {A = ℕ} 0 1 = cc in absurd (omega arith)
+  some_from (x ∷ xs) k n d is =
+      ⊎_elim
+      (λ (here : p x ≡ true).
+      let found : Some k ≡ Some n = sym (cond-true _ _ _ here) ∙ is in
+      let at : k ≡ n = cc in
+      (0, omega arith, omega arith, here, cond-true _ _ _ here))
+      (λ (past : p x ≡ false).
+      let later = some_from xs (k + 1) n d (sym (cond-false _ _ _ past) ∙ is) in
+      (suc later.0, omega (arith, later.1), omega (arith, later.2), later.3, cond-false _ _ _ past ∙ later.4))
+      (cases_Bool (p x))
+
+  -- what is found from the front lies within, and passes
+  pub first_at : (xs : List X) (n : ℕ) (d : X) → first_place p xs 0 ≡ Some n
+      → (n < length xs) × (p (get_or xs n d) ≡ true) × (first_that p xs ≡ Some (get_or xs n d))
+  first_at xs n d is =
+      let hit = some_from xs 0 n d is in
+      let at : hit.0 ≡ n = omega (arith, hit.1) in
+      (omega (arith, hit.2), ap (λ m. p (get_or xs m d)) (sym at) ∙ hit.3, hit.4 ∙ ap (λ m. Some (get_or xs m d)) at)
 
 -- a sound index of the entries answers with the place of the first entry that has the key
 pub finds_all : {E K : Type 0} (keyed : E → K) (equal : K → K → Bool) (digest : K → ℕ) → Lawful equal digest → (entries : List E) (slots : List ℕ)
@@ -60,36 +70,11 @@ module _ {E K : Type 0} (keyed : E → K) (equal : K → K → Bool) (q : K) whe
   abbrev has : E → Bool
   has e = equal (keyed e) q
 
-  none_from : (entries : List E) (k : ℕ) → first_place has entries k ≡ None → first_with keyed equal q entries ≡ None
-  none_from [] k is = refl
-  none_from (e ∷ es) k is =
-      ⊎_elim
-      (λ (here : has e ≡ true). let bad : Some k ≡ None = sym (cond-true _ _ _ here) ∙ is in let z : ◌≡◌ {A = ℕ} 0 1 = cc in absurd (omega arith))
-      (λ (past : has e ≡ false). cond-false _ _ _ past ∙ none_from es (k + 1) (sym (cond-false _ _ _ past) ∙ is))
-      (cases_Bool (has e))
-
-  some_from : (entries : List E) (k n : ℕ) (d : E) → first_place has entries k ≡ Some n
-      → (m : ℕ) × (n ≡ k + m) × (first_with keyed equal q entries ≡ Some (get_or entries m d))
-  some_from [] k n d is = let z : ◌≡◌ {A = ℕ} 0 1 = cc in absurd (omega arith)
-  some_from (e ∷ es) k n d is =
-      ⊎_elim
-      (λ (here : has e ≡ true).
-      let found : Some k ≡ Some n = sym (cond-true _ _ _ here) ∙ is in
-      let at : k ≡ n = cc in
-      (0, omega arith, cond-true _ _ _ here))
-      (λ (past : has e ≡ false).
-      let later = some_from es (k + 1) n d (sym (cond-false _ _ _ past) ∙ is) in
-      (suc later.0, omega (arith, later.1), cond-false _ _ _ past ∙ later.2))
-      (cases_Bool (has e))
-
   pub with_none : (entries : List E) → place_with keyed equal q entries ≡ None → first_with keyed equal q entries ≡ None
-  with_none entries is = none_from entries 0 is
+  with_none entries is = none_from has entries 0 is
 
   pub with_some : (entries : List E) (n : ℕ) (d : E) → place_with keyed equal q entries ≡ Some n → first_with keyed equal q entries ≡ Some (get_or entries n d)
-  with_some entries n d is =
-      let hit = some_from entries 0 n d is in
-      let at : hit.0 ≡ n = omega (arith, hit.1) in
-      hit.2 ∙ ap (λ m. Some (get_or entries m d)) at
+  with_some entries n d is = (first_at has entries n d is).2
 
   -- an entry that is read at that place
   pub read_at : (entries es : List E) (n : ℕ) (r : Option (Bor E)) → es ≡ entries → place_with keyed equal q entries ≡ Some n

@@ -163,26 +163,23 @@ fn index_all<B, R: SchemaRow<B>>(
 
 // The first fault of all rows; or none, and both slots are an index of their rows.
 fn index_tables(
-    types: &[TypeRow],
-    fields: &[FieldRow],
+    rows: &SchemaRows<'_>,
     type_slots: &mut [u32],
     field_slots: &mut [u32],
 ) -> Result<(), SchemaFault>
-    requires few_types { length types.now ≤ 1024 }
-    requires few_fields { length fields.now ≤ 4096 }
-    requires type_size { length type_slots.old ≡ 2048 }
-    requires field_size { length field_slots.old ≡ 8192 }
+    requires few_types { length rows.now.types.now ≤ limit type_slots.old }
+    requires few_fields { length rows.now.fields.now ≤ limit field_slots.old }
     requires fresh_types { Sound same_name name_hash [] type_slots.old }
     requires fresh_fields { Sound same_field field_hash [] field_slots.old }
-    ensures fault { result ≡ verdict_of (rows_fault types.now fields.now) }
-    ensures sound { IfOk result (λ _. Sound same_name name_hash (map type_key types.now) type_slots.new × Sound same_field field_hash (map row_key fields.now) field_slots.new) }
+    ensures fault { result ≡ verdict_of (rows_fault rows.now.types.now rows.now.fields.now) }
+    ensures sound { IfOk result (λ _. Sound same_name name_hash (map type_key rows.now.types.now) type_slots.new × Sound same_field field_hash (map row_key rows.now.fields.now) field_slots.new) }
 {
-    index_all(types, &(), type_slots)?;
+    index_all(rows.types, &(), type_slots)?;
     let types = FoundTypes {
-        rows: types,
+        rows: rows.types,
         slots: type_slots,
     };
-    index_all(fields, &types, field_slots)
+    index_all(rows.fields, &types, field_slots)
 }
 
 /// Checks the rows of a schema and indexes them in the slots, which are lent empty: 2,048 for the types and 8,192 for
@@ -201,7 +198,7 @@ pub fn index_rows(
     if !is_empty_index(type_slots, TYPE_SLOTS) || !is_empty_index(field_slots, FIELD_SLOTS) {
         return Err(SchemaFault::SlotsUnfit);
     }
-    let verdict = index_tables(rows.types, rows.fields, type_slots, field_slots);
+    let verdict = index_tables(rows, type_slots, field_slots);
     if verdict.is_err() {
         empty::<TypeRow>(type_slots);
         empty::<FieldRow>(field_slots);
