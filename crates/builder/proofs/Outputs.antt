@@ -4,11 +4,12 @@ use Rattle.std.proofs.lemmas.List.{append-nil}
 use Rattle.layout.specs.Forest.{Forest, none, row, size, flatten}
 use Rattle.layout.proofs.Tables.{length-flatten}
 use Rattle.document.specs.Rows.{Selection}
+use Rattle.document.specs.Sets.{no_row}
 use Rattle.selection_rules.specs.declared.stored.StoredRow.{StoredRow}
 use Rattle.selection_rules.specs.declared.error.BuildError.{BuildError}
 use Rattle.selection_rules.specs.declared.settling.SelectionFault.{SelectionFault}
 use Rattle.selection_rules.specs.declared.settling.SelectionFault.TheVariants.{UnknownCondition, OnScalar, OnEnum, UnknownField}
-use Rattle.selection_rules.specs.Stored.{Stored, stored_row}
+use Rattle.selection_rules.specs.Stored.{Stored, stored_row, stored_of}
 use Rattle.selection_rules.specs.Errors.{Path, Error, keys_of, keys_in, error_row, error_rows}
 use Rattle.selection_rules.specs.Sets.{error_of}
 use Rattle.builder.specs.Filling.{put, Output, output, filled_to, with_set}
@@ -104,26 +105,11 @@ row_then o a below after es fs rows_fit errors_fit keys_fit =
     (omega (arith, ap length (keys_joined es fs), length-append (keys_in es) (keys_in fs)))
 
 abbrev pub no_stored_row : StoredRow
-no_stored_row =
-    record { kind = 0; name = 0; alias = 0; condition = 0; arguments = 0; directives = 0; location = 0; name_location = 0; condition_location = 0; end = 0; place = 0; set_type = 0 }
+no_stored_row = record { selection = no_row; place = 0; set_type = 0 }
 
 -- a stored row with another end
 abbrev pub ended : StoredRow → ℕ → StoredRow
-ended x e =
-    record {
-      kind = x.kind;
-      name = x.name;
-      alias = x.alias;
-      condition = x.condition;
-      arguments = x.arguments;
-      directives = x.directives;
-      location = x.location;
-      name_location = x.name_location;
-      condition_location = x.condition_location;
-      end = e;
-      place = x.place;
-      set_type = x.set_type;
-    }
+ended x e = stored_row (stored_of x) e
 
 -- the row that was opened is still there
 pub still_open : (o : Output) (r d : StoredRow) (below : Forest Stored) (es : List Error) → o.filled.rows < length o.rows

@@ -1,6 +1,8 @@
 -- The role of a definition, by its kind and its name.
-use Rattle.std.proofs.Common.{◌≡◌, cond, eqb, ◌∙◌, arith}
-use Rattle.std.proofs.lemmas.Bool.{eq-eqb, ne_eqb, cond-true, cond-false}
+use Rattle.std.proofs.Common.{◌≡◌, ℕ, Bool, true, false, cond, eqb, Some, None, refl, ◌∙◌, arith}
+use Rattle.std.proofs.lemmas.Bool.{eqb-true, eq-eqb, ne_eqb, cond-true, cond-false}
+use Rattle.document.specs.declared.kinds.DefinitionKind.TheVariants.{Operation, Fragment, TypeSystem}
+use Rattle.document.specs.Kinds.{definition_kind}
 use Rattle.document.specs.Rows.{Head}
 use Rattle.building_rules.specs.Definitions.{anonymous_operation, named_operation, fragment, type_system, role_of}
 
@@ -19,3 +21,23 @@ module _ (h : Head) where
 
   pub system_role : (h.kind ≡ 1 → ⊥) → (h.kind ≡ 2 → ⊥) → role_of h ≡ type_system
   system_role one two = cond-false _ _ _ (ne_eqb h.kind 1 one) ∙ cond-false _ _ _ (ne_eqb h.kind 2 two)
+
+-- what the number of a row is, by its kind
+
+operation_so : (a b c : Bool) → cond a (Some Operation) (cond b (Some Fragment) (cond c (Some TypeSystem) None)) ≡ Some Operation → a ≡ true
+operation_so true b c is = refl
+operation_so false true c is = let z : ◌≡◌ {A = ℕ} 0 1 = cc in absurd (omega arith)
+operation_so false false true is = let z : ◌≡◌ {A = ℕ} 0 1 = cc in absurd (omega arith)
+operation_so false false false is = let z : ◌≡◌ {A = ℕ} 0 1 = cc in absurd (omega arith)
+
+fragment_so : (a b c : Bool) → cond a (Some Operation) (cond b (Some Fragment) (cond c (Some TypeSystem) None)) ≡ Some Fragment → b ≡ true
+fragment_so true b c is = let z : ◌≡◌ {A = ℕ} 0 1 = cc in absurd (omega arith)
+fragment_so false true c is = refl
+fragment_so false false true is = let z : ◌≡◌ {A = ℕ} 0 1 = cc in absurd (omega arith)
+fragment_so false false false is = let z : ◌≡◌ {A = ℕ} 0 1 = cc in absurd (omega arith)
+
+pub operation_number : (k : ℕ) → definition_kind k ≡ Some Operation → k ≡ 1
+operation_number k is = eqb-true k 1 (operation_so (eqb k 1) (eqb k 2) _ is)
+
+pub fragment_number : (k : ℕ) → definition_kind k ≡ Some Fragment → k ≡ 2
+fragment_number k is = eqb-true k 2 (fragment_so (eqb k 1) (eqb k 2) _ is)

@@ -7,10 +7,9 @@ use Rattle.selection_rules.specs.Errors.{error_rows}
 use Rattle.building_rules.specs.Definitions.{Role, anonymous_operation, named_operation, fragment, role_of, operation_of, Taken, taken_at, State, beside}
 use Rattle.stored_tables.specs.declared.definition.StoredDefinition.{StoredDefinition}
 use Rattle.builder.specs.declared.ruling.Ruling.{Ruling}
-use Rattle.builder.specs.declared.ruling.Arriving.TheVariants.{Anonymous, Named}
 use Rattle.builder.specs.Holding.{taken_by}
 use Rattle.builder.proofs.Roles.{operation_role, fragment_role}
-use Rattle.builder.specs.Ruling.{operations_stored, arriving_as, root_errors, anonymous_errors, name_errors, fragment_errors, own_errors_as, named_root, fragment_type, set_type_as, now_multiple, root_ruling, operation_ruling, fragment_ruling, maybe, told, Ruled}
+use Rattle.builder.specs.Ruling.{operations_stored, arriving_name, root_errors, anonymous_errors, name_errors, fragment_errors, own_errors_as, named_root, fragment_type, set_type_as, now_multiple, root_ruling, operation_ruling, fragment_ruling, maybe, told, Ruled}
 
 -- a ruling says what the rules say of a definition of this role
 record Says (m : Meaning) (s : State) (h : Head) (strict : Bool) (role : Role) (r : Ruling) : Type 0 where
@@ -40,7 +39,7 @@ module _ (m : Meaning) (multiple : Bool) (h : Head) where
   further at true = refl
   further at false = refl
 
-  named_told : (a taken : Option ℕ) (count : ℕ) → told (operation_ruling m multiple taken h (operations_stored a count) Named) ≡ error_rows 0 (beside a ++ name_errors m taken h)
+  named_told : (a taken : Option ℕ) (count : ℕ) → told (operation_ruling m multiple taken h (operations_stored a count) (Some h.name)) ≡ error_rows 0 (beside a ++ name_errors m taken h)
   named_told None None zero = rooted (m.root (operation_of h))
   named_told None None (suc n) = rooted (m.root (operation_of h))
   named_told None (Some at) zero = refl
@@ -50,7 +49,7 @@ module _ (m : Meaning) (multiple : Bool) (h : Head) where
   named_told (Some a) (Some at) zero = refl
   named_told (Some a) (Some at) (suc n) = refl
 
-  named_stored : (a taken : Option ℕ) (count : ℕ) → (operation_ruling m multiple taken h (operations_stored a count) Named).set_type ≡ named_root m taken h
+  named_stored : (a taken : Option ℕ) (count : ℕ) → (operation_ruling m multiple taken h (operations_stored a count) (Some h.name)).set_type ≡ named_root m taken h
   named_stored None None zero = refl
   named_stored None None (suc n) = refl
   named_stored None (Some at) zero = refl
@@ -60,7 +59,7 @@ module _ (m : Meaning) (multiple : Bool) (h : Head) where
   named_stored (Some a) (Some at) zero = refl
   named_stored (Some a) (Some at) (suc n) = refl
 
-  named_multiple : (a taken : Option ℕ) (count : ℕ) → (operation_ruling m multiple taken h (operations_stored a count) Named).multiple_anonymous ≡ multiple
+  named_multiple : (a taken : Option ℕ) (count : ℕ) → (operation_ruling m multiple taken h (operations_stored a count) (Some h.name)).multiple_anonymous ≡ multiple
   named_multiple None None zero = refl
   named_multiple None None (suc n) = refl
   named_multiple None (Some at) zero = refl
@@ -74,21 +73,21 @@ module _ (m : Meaning) (multiple : Bool) (h : Head) where
     abbrev before : Option ℕ → ℕ → State
     before a count = record { anonymous = a; multiple = multiple; operations = taken_by entries count; fragments = fragments }
 
-    anonymous_says : (a taken : Option ℕ) (count : ℕ) → Says m (before a count) h strict anonymous_operation (operation_ruling m multiple taken h (operations_stored a count) Anonymous)
+    anonymous_says : (a taken : Option ℕ) (count : ℕ) → Says m (before a count) h strict anonymous_operation (operation_ruling m multiple taken h (operations_stored a count) None)
     anonymous_says None taken zero = record { errors = rooted (m.root (operation_of h)); stored = refl; multiple = refl }
     anonymous_says None taken (suc n) = record { errors = refl; stored = refl; multiple = refl }
     anonymous_says (Some at) taken zero = record { errors = further at multiple; stored = refl; multiple = refl }
     anonymous_says (Some at) taken (suc n) = record { errors = further at multiple; stored = refl; multiple = refl }
 
     operation_says : (b : Bool) (a : Option ℕ) (count : ℕ)
-        → Says m (before a count) h strict (cond b anonymous_operation named_operation) (operation_ruling m multiple (taken_at h.name (taken_by entries count)) h (operations_stored a count) (cond b Anonymous Named))
+        → Says m (before a count) h strict (cond b anonymous_operation named_operation) (operation_ruling m multiple (taken_at h.name (taken_by entries count)) h (operations_stored a count) (cond b None (Some h.name)))
     operation_says true a count = anonymous_says a (taken_at h.name (taken_by entries count)) count
     operation_says false a count =
         let taken = taken_at h.name (taken_by entries count) in
         record { errors = named_told a taken count; stored = named_stored a taken count; multiple = named_multiple a taken count }
 
     pub operation_ruled : (a : Option ℕ) (count : ℕ) → h.kind ≡ 1
-        → Ruled m (before a count) h strict (operation_ruling m multiple (taken_at h.name (taken_by entries count)) h (operations_stored a count) (arriving_as h))
+        → Ruled m (before a count) h strict (operation_ruling m multiple (taken_at h.name (taken_by entries count)) h (operations_stored a count) (arriving_name h))
     operation_ruled a count kind =
         says_so m (before a count) h strict (cond (eqb h.name 0) anonymous_operation named_operation) _ (operation_role h kind) (operation_says (eqb h.name 0) a count)
 

@@ -6,12 +6,13 @@ use Rattle.ordered_index.specs.Keys.{same_name, name_hash}
 use Rattle.ordered_index.specs.Probing.{probe_for}
 use Rattle.ordered_index.specs.Entering.{slots_after}
 use Rattle.schema.specs.Meaning.{Meaning}
+use Rattle.document.specs.Sets.{no_definition_row}
 use Rattle.selection_rules.specs.declared.stored.StoredRow.{StoredRow}
 use Rattle.selection_rules.specs.declared.error.BuildError.{BuildError}
 use Rattle.selection_rules.specs.Errors.{Error, error_rows, keys_in}
 use Rattle.building_rules.specs.Definitions.{Accepted, Kept, Taken, State, step, kept_from, errors_from, state_after}
 use Rattle.stored_tables.specs.declared.definition.StoredDefinition.{StoredDefinition}
-use Rattle.stored_tables.specs.Layout.{rows_of, rows_kept, operations_of, fragments_of, anonymous_of}
+use Rattle.stored_tables.specs.Layout.{name_of, rows_of, rows_kept, operations_of, fragments_of, anonymous_of}
 use Rattle.builder.specs.declared.progress.Progress.{Progress}
 use Rattle.builder.specs.Filling.{put, Output, output, filled_to}
 
@@ -26,7 +27,7 @@ table entries slots count = record { entries = entries; slots = slots; count = c
 
 -- the names of the definitions that are stored in a table
 abbrev pub names_in : Table → List ℕ
-names_in t = keys_of (λ d. d.name) t.count t.entries
+names_in t = keys_of name_of t.count t.entries
 
 -- the slots once a name that is not yet there has the next place: the slot at which its probe ends names that place
 abbrev pub slots_with : Table → ℕ → List ℕ
@@ -34,7 +35,7 @@ slots_with t name = slots_after (probe_for same_name name_hash (names_in t) t.sl
 
 -- one definition more, behind the others
 abbrev pub entered : Table → StoredDefinition → Table
-entered t d = table (slice_set t.entries t.count d) (slots_with t d.name) (t.count + 1)
+entered t d = table (slice_set t.entries t.count d) (slots_with t d.row.name) (t.count + 1)
 
 abbrev pub all_entered : Table → List StoredDefinition → Table
 all_entered t [] = t
@@ -59,18 +60,17 @@ held p operations operation-slots fragments fragment-slots rows errors path_keys
     }
 
 abbrev pub no_stored_definition : StoredDefinition
-no_stored_definition =
-    record { kind = 0; operation_type = 0; name = 0; condition = 0; variables = 0; directives = 0; location = 0; name_location = 0; condition_location = 0; first = 0; end = 0; set_type = 0 }
+no_stored_definition = record { row = no_definition_row; set_type = 0 }
 
 -- the names that the first n definitions of a table take, the latest first
 abbrev pub taken_by : List StoredDefinition → ℕ → List Taken
 taken_by entries zero = []
 taken_by entries (suc n) =
-    record { name = (slice_index_or entries n no_stored_definition).name; location = (slice_index_or entries n no_stored_definition).name_location } ∷ taken_by entries n
+    record { name = (slice_index_or entries n no_stored_definition).row.name; location = (slice_index_or entries n no_stored_definition).row.name_location } ∷ taken_by entries n
 
 abbrev pub location_of : Option StoredDefinition → Option ℕ
 location_of None = None
-location_of (Some d) = Some d.location
+location_of (Some d) = Some d.row.location
 
 abbrev pub state : Option StoredDefinition → Bool → List StoredDefinition → ℕ → List StoredDefinition → ℕ → State
 state anonymous multiple operations n fragments k =
@@ -80,10 +80,6 @@ state anonymous multiple operations n fragments k =
 abbrev pub state_of : Held → State
 state_of h =
     state h.anonymous h.multiple h.operations.entries h.operations.count h.fragments.entries h.fragments.count
-
--- the same, told of a builder's own values and its two tables of definitions
-abbrev pub state_before : Progress → List StoredDefinition → List StoredDefinition → State
-state_before p operations fragments = state p.anonymous p.multiple_anonymous operations p.operations fragments p.fragments
 
 -- kept definitions with their rows, and errors with their path keys, behind what was there; all else is as it was
 abbrev pub filled_with : Held → List Kept → List Error → Bool → Held

@@ -1,6 +1,7 @@
 -- The definitions that the contracts of the crate cite, in the order in which they are needed.
 pub mod Filling
 pub mod Holding
+pub mod Naming
 pub mod Ruling
 pub mod Storing
 pub mod Space

@@ -9,8 +9,6 @@ use Rattle.selection_rules.specs.declared.error.BuildError.TheVariants.{Ambiguou
 use Rattle.builder.specs.declared.ruling.Ruling.{Ruling}
 use Rattle.builder.specs.declared.ruling.StoredOperations.{StoredOperations}
 use Rattle.builder.specs.declared.ruling.StoredOperations.TheVariants.{Neither, AnonymousOnly, NamedOnly, Both}
-use Rattle.builder.specs.declared.ruling.Arriving.{Arriving}
-use Rattle.builder.specs.declared.ruling.Arriving.TheVariants.{Anonymous, Named}
 
 -- which operations are stored, by the location of the anonymous one and the number of the named ones
 abbrev pub operations_stored : Option ℕ → ℕ → StoredOperations
@@ -19,8 +17,9 @@ operations_stored None (suc n) = NamedOnly
 operations_stored (Some at) zero = AnonymousOnly at
 operations_stored (Some at) (suc n) = Both at
 
-abbrev pub arriving_as : Head → Arriving
-arriving_as h = cond (h.name == 0) Anonymous Named
+-- the name of an operation that arrives, if it has one
+abbrev pub arriving_name : Head → Option ℕ
+arriving_name h = cond (h.name == 0) None (Some h.name)
 
 -- without a root an operation is left out
 abbrev pub root_errors : Option ℕ → Head → List Error
@@ -106,16 +105,16 @@ further_ruling multiple at h =
     }
 
 -- what is ruled of an operation, by the operations that are stored and where its name is taken
-abbrev pub operation_ruling : Meaning → Bool → Option ℕ → Head → StoredOperations → Arriving → Ruling
-operation_ruling m multiple taken h Neither Anonymous = root_ruling None multiple (m.root (operation_of h)) h
-operation_ruling m multiple taken h NamedOnly Anonymous =
+abbrev pub operation_ruling : Meaning → Bool → Option ℕ → Head → StoredOperations → Option ℕ → Ruling
+operation_ruling m multiple taken h Neither None = root_ruling None multiple (m.root (operation_of h)) h
+operation_ruling m multiple taken h NamedOnly None =
     record { first = Some (AmbiguousAnonymousOperation h.location); second = None; set_type = None; multiple_anonymous = multiple }
-operation_ruling m multiple taken h (AnonymousOnly at) Anonymous = further_ruling multiple at h
-operation_ruling m multiple taken h (Both at) Anonymous = further_ruling multiple at h
-operation_ruling m multiple taken h Neither Named = named_ruling m None multiple taken h
-operation_ruling m multiple taken h NamedOnly Named = named_ruling m None multiple taken h
-operation_ruling m multiple taken h (AnonymousOnly at) Named = named_ruling m (Some (AmbiguousAnonymousOperation at)) multiple taken h
-operation_ruling m multiple taken h (Both at) Named = named_ruling m (Some (AmbiguousAnonymousOperation at)) multiple taken h
+operation_ruling m multiple taken h (AnonymousOnly at) None = further_ruling multiple at h
+operation_ruling m multiple taken h (Both at) None = further_ruling multiple at h
+operation_ruling m multiple taken h Neither (Some name) = named_ruling m None multiple taken h
+operation_ruling m multiple taken h NamedOnly (Some name) = named_ruling m None multiple taken h
+operation_ruling m multiple taken h (AnonymousOnly at) (Some name) = named_ruling m (Some (AmbiguousAnonymousOperation at)) multiple taken h
+operation_ruling m multiple taken h (Both at) (Some name) = named_ruling m (Some (AmbiguousAnonymousOperation at)) multiple taken h
 
 -- what is ruled of a fragment, by where its name is taken and whether its condition is known
 abbrev pub fragment_ruling : Bool → Option ℕ → Bool → Head → Ruling

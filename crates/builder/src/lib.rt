@@ -2,6 +2,7 @@
 #![tactic(auto)]
 
 mod filled;
+mod named;
 mod path;
 mod progress;
 mod ruling;

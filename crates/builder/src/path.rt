@@ -6,7 +6,7 @@ ghost use Rattle.selection_rules.specs.Errors.{path_at};
 ghost use Rattle.selection_rules.specs.Sets.{response_key, path_to};
 ghost use Rattle.builder.specs.Filling.{put, path_of};
 
-use document::SelectionRow;
+use document::{SelectionKind, SelectionRow};
 use selection_rules::{ExecutableDefinitionName, SelectionPath};
 
 /// An open path: as many of the keys are in use as fields are open.
@@ -44,7 +44,7 @@ impl OpenPath {
         ensures depth { result.depth ≡ way self.depth (selection_of row.now) }
     {
         let mut path = self;
-        if row.kind == 1 {
+        if row.selection_kind() == Some(SelectionKind::Field) {
             path.keys[path.depth] = response_key(row);
             path.depth += 1;
         }

@@ -1,7 +1,6 @@
 // The build of one set of selections: what is kept is stored in order, what is faulty is listed with its path.
 ghost use Rattle.std.specs.Prelude.{◌≡◌, ℕ, ◌+◌, ◌<◌, ◌≤◌, List, [], ◌∷◌, length};
 ghost use Rattle.layout.specs.Forest.{Forest, none};
-ghost use Rattle.schema.specs.Meaning.{meaning};
 ghost use Rattle.document.specs.Rows.{Selection, selection_of};
 ghost use Rattle.document.specs.Sets.{Holds};
 ghost use Rattle.selection_rules.specs.declared.stored.StoredRow.{StoredRow};
@@ -12,7 +11,7 @@ ghost use Rattle.builder.specs.Filling.{path_of, output, with_set, Room};
 
 use crate::filled::Filled;
 use crate::path::OpenPath;
-use document::{Document, SelectionRow, SelectionSet};
+use document::{Document, SelectionKind, SelectionRow, SelectionSet};
 use schema::Schema;
 use selection_rules::{BuildError, SelectionFault, SelectionPath, Settled, StoredRow, settle};
 
@@ -80,10 +79,13 @@ fn list_fault(
 // What becomes of a selection in the type around it, told with the type around what stands beneath it: nothing stands
 // beneath a spread, so that type is the one around the spread.
 fn settle_in<S: Schema>(schema: &S, around: u32, row: &SelectionRow, beneath: bool) -> Settled
-    ensures { result ≡ settled_in (meaning (S.Schema.root schema.now) (S.Schema.known schema.now) (S.Schema.sort schema.now) (S.Schema.field schema.now)) around (selection_of row.now) beneath }
+    ensures { result ≡ settled_in (S.Schema.meaning schema.now) around (selection_of row.now) beneath }
 {
-    if row.kind == 2 {
-        return Settled::Kept(0, around);
+    if row.selection_kind() == Some(SelectionKind::Spread) {
+        return Settled::Kept {
+            place: 0,
+            set_type: around,
+        };
     }
     settle(schema, around, row, beneath)
 }
@@ -93,7 +95,10 @@ fn settle_in<S: Schema>(schema: &S, around: u32, row: &SelectionRow, beneath: bo
 fn open_in(row: &SelectionRow, place: u32, inner: u32) -> StoredRow
     ensures { result ≡ stored_row (stored_in (selection_of row.now) place inner) 0 }
 {
-    let set_type = if row.kind == 2 { 0 } else { inner };
+    let set_type = match row.selection_kind() {
+        Some(SelectionKind::Spread) => 0,
+        _ => inner,
+    };
     StoredRow::open(row, place, set_type)
 }
 
@@ -110,14 +115,17 @@ pub fn build_set<S: Schema>(
     filled: Filled,
 ) -> Filled
     requires room { (f : Forest Selection) × Room document.now.rows.now set path.depth (output rows.old errors.old path_keys.old filled) f }
-    ensures { (f : Forest Selection) → Holds document.now.rows.now set f → output rows.new errors.new path_keys.new result ≡ with_set (output rows.old errors.old path_keys.old filled) (build (meaning (S.Schema.root schema.now) (S.Schema.known schema.now) (S.Schema.sort schema.now) (S.Schema.field schema.now)) around f) (errors-of (meaning (S.Schema.root schema.now) (S.Schema.known schema.now) (S.Schema.sort schema.now) (S.Schema.field schema.now)) (path_of path) around f) }
+    ensures { (f : Forest Selection) → Holds document.now.rows.now set f → output rows.new errors.new path_keys.new result ≡ with_set (output rows.old errors.old path_keys.old filled) (build (S.Schema.meaning schema.now) around f) (errors-of (S.Schema.meaning schema.now) (path_of path) around f) }
 {
     let mut done = filled;
     let mut rest = set;
     while let Some(step) = document.next_selection(rest) {
         let row = step.row;
         match settle_in(schema, around, &row, !step.beneath.is_empty()) {
-            Settled::Kept(place, inner) => {
+            Settled::Kept {
+                place,
+                set_type: inner,
+            } => {
                 let at = done.rows;
                 rows[at] = open_in(&row, place, inner);
                 done.rows += 1;
@@ -132,7 +140,7 @@ pub fn build_set<S: Schema>(
                     path_keys,
                     done,
                 );
-                rows[at].end = done.rows as u32;
+                rows[at].selection.end = done.rows as u32;
             }
             Settled::Dropped => {}
             Settled::Faulty(fault) => {

@@ -16,9 +16,9 @@ ghost use Rattle.builder.specs.Storing.{store_as, Free, Indexed};
 use crate::filled::Filled;
 use crate::path::OpenPath;
 use crate::progress::Progress;
-use crate::ruling::{Ruling, operation_type, rule};
+use crate::ruling::{Ruling, operation_type};
 use crate::set::build_set;
-use document::{DefinitionRow, Document};
+use document::{DefinitionKind, DefinitionRow, Document};
 use ordered_index::{Entered, insert};
 use schema::Schema;
 use selection_rules::{BuildError, ExecutableDefinitionName, StoredRow};
@@ -53,9 +53,13 @@ fn list_ruling(ruling: &Ruling, errors: &mut [BuildError], at: usize) -> usize
 fn root_name_of(row: &DefinitionRow) -> ExecutableDefinitionName
     ensures { result ≡ root_name (head_of row.now) }
 {
-    match row.kind {
-        1 if row.name == 0 => ExecutableDefinitionName::AnonymousOperation(operation_type(row)),
-        1 => ExecutableDefinitionName::NamedOperation(operation_type(row), row.name),
+    match row.definition_kind() {
+        Some(DefinitionKind::Operation) if row.name == 0 => {
+            ExecutableDefinitionName::AnonymousOperation(operation_type(row))
+        }
+        Some(DefinitionKind::Operation) => {
+            ExecutableDefinitionName::NamedOperation(operation_type(row), row.name)
+        }
         _ => ExecutableDefinitionName::Fragment(row.name),
     }
 }
@@ -70,7 +74,7 @@ fn enter_definition(
     requires fits { count < length entries.old }
     requires room { count < limit slots.old }
     requires sound { Sound same_name name_hash (names_in (table entries.old slots.old count)) slots.old }
-    requires free { taken_at definition.name (taken_by entries.old count) ≡ None }
+    requires free { taken_at definition.row.name (taken_by entries.old count) ≡ None }
     ensures entered { table entries.new slots.new result ≡ entered (table entries.old slots.old count) definition }
     ensures sound { Sound same_name name_hash (names_in (table entries.new slots.new result)) slots.new }
 {
@@ -89,7 +93,7 @@ fn keep_definition(
     fragments: &mut [StoredDefinition],
     fragment_slots: &mut [u32],
 ) -> Progress
-    requires free { Free (role_of (stored_head definition)) definition.name (table operations.old operation_slots.old progress.operations) (table fragments.old fragment_slots.old progress.fragments) }
+    requires free { Free (role_of (stored_head definition)) definition.row.name (table operations.old operation_slots.old progress.operations) (table fragments.old fragment_slots.old progress.fragments) }
     requires operations { Indexed (table operations.old operation_slots.old progress.operations) }
     requires fragments { Indexed (table fragments.old fragment_slots.old progress.fragments) }
     ensures kept { (rows : List StoredRow) (errors : List BuildError) (keys : List ℕ) → held result operations.new operation_slots.new fragments.new fragment_slots.new rows errors keys ≡ store_as (role_of (stored_head definition)) (held progress operations.old operation_slots.old fragments.old fragment_slots.old rows errors keys) definition }
@@ -97,9 +101,11 @@ fn keep_definition(
     ensures fragments { Indexed (table fragments.new fragment_slots.new result.fragments) }
 {
     let mut next = progress;
-    match definition.kind {
-        1 if definition.name == 0 => next.anonymous = Some(definition),
-        1 => {
+    match definition.row.definition_kind() {
+        Some(DefinitionKind::Operation) if definition.row.name == 0 => next.anonymous = Some(
+            definition,
+        ),
+        Some(DefinitionKind::Operation) => {
             next.operations = enter_definition(
                 definition,
                 operations,
@@ -107,7 +113,7 @@ fn keep_definition(
                 operation_slots,
             );
         }
-        2 => {
+        Some(DefinitionKind::Fragment) => {
             next.fragments = enter_definition(
                 definition,
                 fragments,

@@ -6,9 +6,10 @@ use Rattle.layout.specs.Forest.{none}
 use Rattle.schema.specs.declared.answers.FieldDefinition.{FieldDefinition}
 use Rattle.schema.specs.declared.answers.FieldLookupError.{FieldLookupError}
 use Rattle.schema.specs.declared.answers.FieldLookupError.TheVariants.{NoSuchType}
-use Rattle.schema.specs.Law.{Lawful}
 use Rattle.schema.specs.Meta.{defined}
-use Rattle.schema.specs.Meaning.{Closed, open_meaning}
+use Rattle.schema.specs.Meaning.{Closed}
+use Rattle.schema.specs.Open.{open_meaning}
+use Rattle.schema.specs.Laws.{open_lawful}
 use Rattle.building_rules.specs.Rules.{of_root, of_field, Stands}
 use Rattle.building_rules.specs.Needed.{nested, twice, ClosedIsNeeded, SomeAreValid}
 use Rattle.building_rules.proofs.Rows.{no_cons}
@@ -29,22 +30,14 @@ closed_is_needed =
           let z : ◌≡◌ {A = ℕ} 0 1 = cc in omega arith;
     }
 
-lawful : Lawful open_meaning.known open_meaning.sort open_meaning.field
-lawful =
-    record {
-      unknown = λ t f e. absurd (let z : ◌≡◌ {A = ℕ} 0 1 = cc in omega arith);
-      present = λ t f e g. let z : ◌≡◌ {A = ℕ} 0 1 = cc in omega arith;
-      sorted = λ t e. refl;
-    }
-
 closed : Closed open_meaning
 closed = record { roots = λ operation t e. refl; inners = λ t f x e. refl }
 
 pub some_are_valid : SomeAreValid
 some_are_valid =
     record {
-      lawful = lawful;
+      lawful = open_lawful;
       closed = closed;
-      valid = (no_errors_exactly_when_valid open_meaning lawful closed nested).0 refl;
-      invalid = λ v. no_cons _ _ ((no_errors_exactly_when_valid open_meaning lawful closed twice).1 v);
+      valid = (no_errors_exactly_when_valid open_meaning open_lawful closed nested).0 refl;
+      invalid = λ v. no_cons _ _ ((no_errors_exactly_when_valid open_meaning open_lawful closed twice).1 v);
     }

@@ -45,7 +45,7 @@ module _ (m : Meaning) (d : Accepted) where
   fragment_of fragment l e = l
   fragment_of type_system l e = absurd (false≢true e)
 
-  module _ (law : Lawful m.known m.sort m.field) (closed : Closed m) (l : Local m d (role_of d.head)) where
+  module _ (law : Lawful m) (closed : Closed m) (l : Local m d (role_of d.head)) where
     around_fine : (t : ℕ) → Around m d t → (m.known t ≡ true) × (errors m (start_path d.head) t d.selected ≡ [])
     around_fine t (of_root v o e) =
         let r = rooted_of (role_of d.head) l o in

@@ -78,7 +78,7 @@ module _ (m : Meaning) (t : ℕ) (s : Selection) (below : Forest Selection) wher
       pub inside : Inside m t s inner
       pub next : (i : ℕ) → Inside m t s i → (k i ≡ []) × (m.known i ≡ true)
 
-    fine_as : Lawful m.known m.sort m.field → Closed m → m.known t ≡ true → (v : Form) (w : Settled) → View m t s below v w → listed w p t s k ≡ [] → Fine w
+    fine_as : Lawful m → Closed m → m.known t ≡ true → (v : Form) (w : Settled) → View m t s below v w → listed w p t s k ≡ [] → Fine w
     fine_as law closed known v w (stays place inner fit inside one_inside shape one-shape) h =
         record {
           fit = fit;
@@ -91,7 +91,7 @@ module _ (m : Meaning) (t : ℕ) (s : Selection) (below : Forest Selection) wher
     fine_as law closed known v w (drops e unfit) h = absurd (law.present t s.name known e)
     fine_as law closed known v w (faults fault unfit) h = no_cons _ _ h
 
-    pub fine : Lawful m.known m.sort m.field → Closed m → m.known t ≡ true → listed (settled_in m t s (some_row below)) p t s k ≡ [] → Fine (settled_in m t s (some_row below))
+    pub fine : Lawful m → Closed m → m.known t ≡ true → listed (settled_in m t s (some_row below)) p t s k ≡ [] → Fine (settled_in m t s (some_row below))
     fine law closed known h = fine_as law closed known (form_of s) (settled_in m t s (some_row below)) (view m t s below) h
 
     -- the other way: a fit selection lists nothing if nothing is listed beneath it
@@ -108,7 +108,7 @@ module _ (m : Meaning) where
   abbrev beneath : Path → Selection → Forest Selection → ℕ → List Error
   beneath p s below = λ inner. errors m (path_to p s) inner below
 
-  module _ (law : Lawful m.known m.sort m.field) (closed : Closed m) where
+  module _ (law : Lawful m) (closed : Closed m) where
     fine_row : (p : Path) (around : ℕ) (s : Selection) (below after : Forest Selection) → m.known around ≡ true → errors m p around (row s below after) ≡ []
         → Fine m around s below (path_to p s) (beneath p s below) (settled_in m around s (some_row below)) × (errors m p around after ≡ [])
     fine_row p around s below after known e =

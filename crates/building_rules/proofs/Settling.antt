@@ -15,7 +15,7 @@ use Rattle.selection_rules.specs.declared.settling.Settled.{Settled}
 use Rattle.selection_rules.specs.declared.settling.Settled.TheVariants.{Kept, Dropped, Faulty}
 use Rattle.selection_rules.specs.Stored.{Form, field, spread, inline, form_of, Stored, stored, set_type_of}
 use Rattle.selection_rules.specs.Settle.{on_kind, found_field, looked_up}
-use Rattle.selection_rules.specs.Sets.{some_row, answers, settled_as, settled_in}
+use Rattle.selection_rules.specs.Sets.{some_row, settled_as, settled_in}
 use Rattle.building_rules.specs.Rules.{Inside, of_field, of_condition, of_around, of_spread, Leaf}
 use Rattle.building_rules.specs.Keeping.{Fit, found, spreads, unconditioned, conditioned, StoredAs}
 
@@ -99,11 +99,11 @@ module _ (m : Meaning) (around : ℕ) (s : Selection) where
     kind_view (Some Enum) g = faults (OnEnum x.inner) (under_leaf (inr g))
     kind_view (Some InputObject) g = under_other (Some InputObject) g refl
 
-  found_view : (below : Forest Selection) (x : FieldDefinition) → form_of s ≡ field → m.field around s.name ≡ Ok x → View m around s below field (found_field (answers m) x (some_row below))
+  found_view : (below : Forest Selection) (x : FieldDefinition) → form_of s ≡ field → m.field around s.name ≡ Ok x → View m around s below field (found_field m x (some_row below))
   found_view none x f e = found_stays none x f e (λ _. refl)
   found_view (row b u v) x f e = kind_view x f e b u v (m.sort x.inner) refl
 
-  field_view : (below : Forest Selection) (r : Result FieldDefinition FieldLookupError) → form_of s ≡ field → m.field around s.name ≡ r → View m around s below field (looked_up (answers m) (some_row below) r)
+  field_view : (below : Forest Selection) (r : Result FieldDefinition FieldLookupError) → form_of s ≡ field → m.field around s.name ≡ r → View m around s below field (looked_up m (some_row below) r)
   field_view below (Ok x) f e = found_view below x f e
   field_view below (Err NoSuchField) f e = faults UnknownField (unfit below f (λ x g l. let z : ◌≡◌ {A = ℕ} 0 1 = cc in omega arith))
   field_view below (Err NoSuchType) f e = drops e (unfit below f (λ x g l. let z : ◌≡◌ {A = ℕ} 0 1 = cc in omega arith))

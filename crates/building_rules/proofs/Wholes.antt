@@ -20,7 +20,7 @@ front f false x xs = refl
 abbrev Left : Accepted → Bool → List Kept → Type 0
 Left d b ks = map handed_for ks ≡ map definition_of (cond b (d ∷ []) [])
 
-module _ (m : Meaning) (law : Lawful m.known m.sort m.field) (closed : Closed m) (d : Accepted) where
+module _ (m : Meaning) (law : Lawful m) (closed : Closed m) (d : Accepted) where
   whole : (around : ℕ) → m.known around ≡ true → (rooted m d (Some around) fresh fresh).errors ≡ [] → Left d true (rooted m d (Some around) fresh fresh).kept
   whole around known h =
       ap (λ f. record { head = d.head; selected = f } ∷ []) (all_kept m law closed (start_path d.head) around d.selected known h)
@@ -49,7 +49,7 @@ module _ (m : Meaning) (law : Lawful m.known m.sort m.field) (closed : Closed m)
   step_left s fragment h = fragment_left s (taken_at d.head.name s.fragments) (m.known d.head.condition) refl h
   step_left s type_system h = refl
 
-kept_whole : (m : Meaning) → Lawful m.known m.sort m.field → Closed m → (s : State) (ds : List Accepted) → errors_from m s ds ≡ [] → map handed_for (kept_from m s ds) ≡ map definition_of (filter is_executable ds)
+kept_whole : (m : Meaning) → Lawful m → Closed m → (s : State) (ds : List Accepted) → errors_from m s ds ≡ [] → map handed_for (kept_from m s ds) ≡ map definition_of (filter is_executable ds)
 kept_whole m law closed s [] h = refl
 kept_whole m law closed s (d ∷ ds) h =
     let two = both_nil (step m s d).errors _ h in

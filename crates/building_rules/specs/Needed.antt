@@ -7,7 +7,7 @@ use Rattle.schema.specs.declared.answers.FieldLookupError.TheVariants.{NoSuchTyp
 use Rattle.schema.specs.Meaning.{Meaning, Closed}
 use Rattle.schema.specs.Law.{Lawful}
 use Rattle.schema.specs.Meta.{defined}
-use Rattle.schema.specs.Meaning.{open_meaning}
+use Rattle.schema.specs.Open.{open_meaning}
 use Rattle.building_rules.specs.Definitions.{Accepted, errors_in}
 use Rattle.building_rules.specs.Rules.{Valid}
 
@@ -46,13 +46,13 @@ abbrev pub twice : List Accepted
 twice = querying 1 (selecting 12 3 none) ∷ querying 10 (selecting 12 12 none) ∷ []
 
 pub record ClosedIsNeeded : Type 0 where
-  pub lawful : Lawful dangling.known dangling.sort dangling.field
+  pub lawful : Lawful dangling
   pub listed : errors_in dangling nested ≡ []
   pub invalid : Valid dangling nested → ⊥
 
 -- the open schema keeps the law and is closed; one document is valid in it, and another is not
 pub record SomeAreValid : Type 0 where
-  pub lawful : Lawful open_meaning.known open_meaning.sort open_meaning.field
+  pub lawful : Lawful open_meaning
   pub closed : Closed open_meaning
   pub valid : Valid open_meaning nested
   pub invalid : Valid open_meaning twice → ⊥

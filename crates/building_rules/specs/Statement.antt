@@ -11,4 +11,4 @@ ExactlyWhenValid m = Closed m → (ds : List Accepted) → (errors_in m ds ≡ [
 
 -- for every schema that keeps the law
 abbrev pub NoErrorsExactlyWhenValid : Type 0
-NoErrorsExactlyWhenValid = (m : Meaning) → Lawful m.known m.sort m.field → ExactlyWhenValid m
+NoErrorsExactlyWhenValid = (m : Meaning) → Lawful m → ExactlyWhenValid m

@@ -30,4 +30,4 @@ ValidKeptWhole m = Closed m → (ds : List Accepted) → Valid m ds → KeptWhol
 
 -- for every schema that keeps the law
 abbrev pub ValidIsKeptWhole : Type 0
-ValidIsKeptWhole = (m : Meaning) → Lawful m.known m.sort m.field → ValidKeptWhole m
+ValidIsKeptWhole = (m : Meaning) → Lawful m → ValidKeptWhole m

@@ -2,7 +2,6 @@
 // Each function does nothing; its promise is a theorem on the rules.
 #![tactic(auto)]
 
-ghost use Rattle.schema.specs.Meaning.{meaning};
 ghost use Rattle.building_rules.specs.Statement.{ExactlyWhenValid};
 ghost use Rattle.building_rules.specs.Whole.{ValidKeptWhole};
 ghost use Rattle.building_rules.specs.Keeping.{KeptExactly, KeptInOrder};
@@ -16,10 +15,8 @@ use schema::Schema;
 /// Where the schema knows each type that it answers with, definitions list no error exactly when they keep the eight rules
 /// of the specification.
 pub fn no_errors_exactly_when_valid<S: Schema>(schema: &S)
-    ensures { ExactlyWhenValid (meaning (S.Schema.root schema.now) (S.Schema.known schema.now) (S.Schema.sort schema.now) (S.Schema.field schema.now)) }
-{
-    schema.keeps_the_law();
-}
+    ensures { ExactlyWhenValid (S.Schema.meaning schema.now) }
+{}
 
 /// The condition is needed: a schema that answers with an unknown type can pass over an error. And it can be met, by valid
 /// documents and by others.
@@ -29,10 +26,8 @@ pub fn knowing_the_types_is_needed()
 
 /// Of valid definitions every operation and every fragment is kept, in their order, with all selections.
 pub fn valid_documents_are_kept_whole<S: Schema>(schema: &S)
-    ensures { ValidKeptWhole (meaning (S.Schema.root schema.now) (S.Schema.known schema.now) (S.Schema.sort schema.now) (S.Schema.field schema.now)) }
-{
-    schema.keeps_the_law();
-}
+    ensures { ValidKeptWhole (S.Schema.meaning schema.now) }
+{}
 
 /// Of any selections, valid or not, exactly those are stored that are fit and stand beneath fit ones only, each with the
 /// place and the type that the schema answers.

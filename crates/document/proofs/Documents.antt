@@ -1,9 +1,10 @@
 -- Tables without a fault are the layout of a document, the layout of a document is without a fault, and there is one only.
-use Rattle.std.proofs.Common.{◌≡◌, ℕ, ◌+◌, ◌≤◌, Bool, true, false, cond, not, ◌&&◌, eqb, ltb, List, [], ◌∷◌, ◌++◌, map, length, take, drop, Some, None, Option, sym, refl, ap, ◌∙◌, arith}
+use Rattle.std.proofs.Common.{◌≡◌, ℕ, ◌+◌, ◌≤◌, Bool, true, false, cond, not, ◌&&◌, eqb, ltb, List, [], ◌∷◌, ◌++◌, map, length, take, drop, Some, None, Ok, Err, Option, Result, sym, refl, ap, ◌∙◌, arith}
+use Rattle.std.specs.Result.{MatchResult}
 use Rattle.std.proofs.lemmas.List.{drop_all, drop_at, drop-drop, take_at, length-append, length-drop}
 use Rattle.std.proofs.lemmas.Bool.{cond-false, eq-eqb, le-ltb, ltb-false, or_from, not_from_true, false≢true}
-use Rattle.refusal.specs.Firsts.{at_row, or_else}
-use Rattle.refusal.proofs.Firsts.{at_row_none, or_else_none}
+use Rattle.refusal.specs.Firsts.{at_row, or_else, verdict_of}
+use Rattle.refusal.proofs.Firsts.{at_row_none, or_else_none, verdict_ok, verdict_err}
 use Rattle.layout.specs.declared.row.RowView.{RowView}
 use Rattle.layout.specs.declared.row.Misfit.{Misfit}
 use Rattle.layout.specs.Forest.{Forest, size, flatten}
@@ -13,9 +14,10 @@ use Rattle.layout.proofs.Tables.{length-flatten, read-flatten}
 use Rattle.layout.proofs.Forests.{lawful, clean}
 use Rattle.document.specs.declared.rows.DefinitionRow.{DefinitionRow}
 use Rattle.document.specs.declared.rows.SelectionRow.{SelectionRow}
+use Rattle.document.specs.declared.fault.DocumentFault.{DocumentFault}
 use Rattle.document.specs.declared.fault.DocumentFault.TheVariants.{TooManyDefinitions, TooManyRows, InDefinitions}
 use Rattle.document.specs.Rows.{Selection, selections, selection_rules, selection_row, selection_view, definition_row, head_of, is_type_system}
-use Rattle.document.specs.Document.{Definition, definition_rows, selection_rows, AllKeep, IsDocument}
+use Rattle.document.specs.Document.{Definition, definition_rows, selection_rows, AllKeep, IsDocument, ReadsAsOne, ReadsAsNone}
 use Rattle.document.specs.Verdict.{misplaced, definition_fault, definitions_fault, is_nil, in_rows, rows_fault, size_fault, orphan_fault, layout_fault, document_fault}
 use Rattle.document.specs.Sets.{no_row}
 use Rattle.document.proofs.Steps.{Placed, placed}
@@ -195,3 +197,14 @@ unique_from s (x ∷ xs) (y ∷ ys) heads rows =
 
 pub only_one : (ds : List DefinitionRow) (rows : List SelectionRow) (x y : List Definition) → IsDocument ds rows x → IsDocument ds rows y → x ≡ y
 only_one ds rows x y a b = unique_from 0 x y (sym a.heads ∙ b.heads) (sym a.selected ∙ b.selected)
+
+-- the verdict on two tables says whether they are a document
+pub judged : (ds : List DefinitionRow) (rows : List SelectionRow) (r : Result Unit DocumentFault) → r ≡ verdict_of (document_fault ds rows)
+    → MatchResult r (λ _. ReadsAsOne ds rows) (λ _. ReadsAsNone ds rows)
+judged ds rows (Ok tt) told =
+    let one = is_document ds rows (verdict_ok _ (sym told)) in
+    record { document = one.0; is = one.1; only = λ other is. only_one ds rows other one.0 is one.1 }
+judged ds rows (Err fault) told = λ document is.
+    let none : Some fault ≡ None = sym (verdict_err _ fault (sym told)) ∙ without_fault ds rows document is in
+    let z : ◌≡◌ {A = ℕ} 0 1 = cc in
+    omega arith

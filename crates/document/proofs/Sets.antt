@@ -1,7 +1,7 @@
 -- The sets that are read off a document stand for its forests.
-use Rattle.std.proofs.Common.{◌≡◌, ℕ, zero, suc, ◌+◌, ◌<◌, ◌≤◌, List, [], ◌∷◌, ◌++◌, length, get_or, drop, Some, sym, refl, ap, ◌∙◌, subst, ⊎_elim, arith}
+use Rattle.std.proofs.Common.{◌≡◌, ℕ, zero, suc, ◌+◌, ◌<◌, ◌≤◌, List, [], ◌∷◌, ◌++◌, length, get_or, drop, Some, sym, refl, ap, ◌∙◌, subst, arith}
 use Rattle.std.proofs.lemmas.List.{drop_at, drop-drop, length-append, length-drop, get_or_past}
-use Rattle.std.proofs.lemmas.Bool.{cond-true, cond-false, le-leb, lt-leb, or_left, or_from, cases_lt}
+use Rattle.std.proofs.lemmas.Bool.{cond-true, cond-false, le-leb, lt-leb, or_left, or_from}
 use Rattle.layout.specs.Forest.{Forest, none, row, size, flatten}
 use Rattle.layout.specs.Shapes.{Stand}
 use Rattle.layout.proofs.Tables.{length-flatten, opened}
@@ -10,7 +10,7 @@ use Rattle.document.specs.declared.rows.SelectionRow.{SelectionRow}
 use Rattle.document.specs.declared.handed.sets.SelectionSet.{SelectionSet}
 use Rattle.document.specs.Rows.{Selection, selections, selection_of, selection_row}
 use Rattle.document.specs.Document.{Definition, no_definition, definition_rows, selection_rows, IsDocument}
-use Rattle.document.specs.Sets.{no_row, no_definition_row, set_of, set_for, step_at, next_of, Holds, Follows}
+use Rattle.document.specs.Sets.{no_row, no_definition_row, set_of, step_at, next_of, Holds, Follows}
 
 module _ (rows : List SelectionRow) where
   -- the rest of the rows, behind those of the first definition
@@ -45,23 +45,19 @@ module _ (rows : List SelectionRow) where
   rows_many s [] = refl
   rows_many s (d ∷ docs) = ap suc (rows_many (s + size d.selected) docs)
 
-  pub set_holds : (ds : List DefinitionRow) (docs : List Definition) (k : ℕ) → IsDocument ds rows docs → Holds rows (set_for ds k) (get_or docs k no_definition).selected
-  set_holds ds docs k is =
-      ⊎_elim
-      (λ (low : k < length ds).
+  pub row_holds : (ds : List DefinitionRow) (docs : List Definition) (k : ℕ) → IsDocument ds rows docs → k < length ds
+      → Holds rows (set_of (get_or ds k no_definition_row).first (get_or ds k no_definition_row).end) (get_or docs k no_definition).selected
+  row_holds ds docs k is low =
       let at : k < length (definition_rows 0 docs) = subst (λ (xs : List DefinitionRow). k < length xs) is.heads low in
-      let here = each_holds 0 docs k (omega arith) is.selected at in
-      let same : set_of (get_or (definition_rows 0 docs) k no_definition_row).first (get_or (definition_rows 0 docs) k no_definition_row).end ≡ set_for ds k =
-      ap (λ xs. set_of (get_or xs k no_definition_row).first (get_or xs k no_definition_row).end) (sym is.heads) ∙ sym (cond-false _ _ _ (lt-leb (length ds) k low)) in
-      subst (λ (set : SelectionSet). Holds rows set (get_or docs k no_definition).selected) same here)
-      (λ (high : length ds ≤ k).
+      subst (λ (xs : List DefinitionRow). Holds rows (set_of (get_or xs k no_definition_row).first (get_or xs k no_definition_row).end) (get_or docs k no_definition).selected)
+      (sym is.heads) (each_holds 0 docs k (omega arith) is.selected at)
+
+  -- past the last definition nothing stands
+  pub past_holds : (ds : List DefinitionRow) (docs : List Definition) (k : ℕ) → IsDocument ds rows docs → length ds ≤ k → Holds rows (set_of 0 0) (get_or docs k no_definition).selected
+  past_holds ds docs k is high =
       let many : length docs ≤ k = let m = rows_many 0 docs in let l = ap length is.heads in omega arith in
-      let past : no_definition ≡ get_or docs k no_definition = sym (get_or_past docs k no_definition many) in
       let empty : Holds rows (set_of 0 0) none = record { stand = record { ends = refl; reads = refl }; within = omega arith } in
-      let same : set_of 0 0 ≡ set_for ds k = sym (cond-true _ _ _ (le-leb (length ds) k high)) in
-      subst (λ (set : SelectionSet). Holds rows set (get_or docs k no_definition).selected) same
-      (subst (λ (d : Definition). Holds rows (set_of 0 0) d.selected) past empty))
-      (cases_lt k (length ds))
+      subst (λ (d : Definition). Holds rows (set_of 0 0) d.selected) (sym (get_or_past docs k no_definition many)) empty
 
   -- what is read of a set is the first row of its forest
   pub next_follows : (set : SelectionSet) (f : Forest Selection) → Holds rows set f → Follows rows set f (next_of rows set)

@@ -1,14 +1,16 @@
 -- The steps of the check: one definition more.
-use Rattle.std.proofs.Common.{◌≡◌, ℕ, zero, suc, ◌+◌, ◌<◌, ◌≤◌, min, Bool, true, false, cond, not, ◌&&◌, ◌||◌, eqb, ltb, List, [], ◌∷◌, length, get_or, drop, Some, None, Option, sym, refl, ap, ◌∙◌, ⊎_elim, arith}
+use Rattle.std.proofs.Common.{◌≡◌, ℕ, zero, suc, ◌+◌, ◌<◌, ◌≤◌, min, Bool, true, false, cond, not, ◌&&◌, ◌||◌, eqb, ltb, List, [], ◌∷◌, length, get_or, drop, Some, None, Ok, Err, Option, sym, refl, ap, ◌∙◌, ⊎_elim, arith}
 use Rattle.std.proofs.lemmas.List.{at_drop_more}
 use Rattle.std.proofs.lemmas.Bool.{eq-eqb, ne_eqb, eqb-true, not-false, cases_eq, or_parts, ltb-false, false≢true}
-use Rattle.refusal.specs.Firsts.{at_row, or_else}
-use Rattle.refusal.proofs.Firsts.{at_row_none}
+use Rattle.refusal.specs.Firsts.{at_row, or_else, verdict_of}
+use Rattle.refusal.proofs.Firsts.{at_row_none, verdict_ok, verdict_err}
+use Rattle.layout.specs.declared.row.RowFault.{RowFault}
 use Rattle.layout.specs.declared.row.RowFault.TheVariants.{NameMissing, Broken}
 use Rattle.layout.specs.declared.row.RowView.{RowView}
 use Rattle.layout.specs.declared.row.Misfit.{Misfit}
 use Rattle.layout.specs.Places.{first_misfit}
 use Rattle.document.specs.declared.rows.DefinitionRow.{DefinitionRow}
+use Rattle.document.specs.declared.fault.DocumentFault.{DocumentFault}
 use Rattle.document.specs.declared.fault.DocumentFault.TheVariants.{InDefinitions}
 use Rattle.document.specs.Sets.{no_definition_row}
 use Rattle.document.specs.Rows.{head_of, head_unnamed, head_broken, is_type_system}
@@ -36,6 +38,26 @@ definitions_step rows start i ds low =
     let d = get_or ds i no_definition_row in
     at_drop_more (definitions_fault rows start i) ds i no_definition_row low
     ∙ ap (λ last. at_row InDefinitions i (definition_fault d start last rows) (definitions_fault rows d.end (i + 1) (drop (i + 1) ds))) (nil_behind ds (i + 1) (omega arith))
+
+-- the check has come to the definition d at i: it has a fault, ..
+pub definition_here : (rows start i : ℕ) (ds : List DefinitionRow) (d : DefinitionRow) (f : RowFault) (all : Option DocumentFault) → i < length ds → d ≡ get_or ds i no_definition_row
+    → definitions_fault rows start i (drop i ds) ≡ all → Err f ≡ verdict_of (definition_fault d start (eqb (i + 1) (length ds)) rows)
+    → Err (InDefinitions f (i + 1)) ≡ verdict_of all
+definition_here rows start i ds d f all low is whole bad =
+    let step = definitions_step rows start i ds low in
+    let own = ap (λ x. definition_fault x start (eqb (i + 1) (length ds)) rows) (sym is) ∙ verdict_err _ f (sym bad) in
+    ap verdict_of
+    (sym (ap (λ x. at_row InDefinitions i x (definitions_fault rows (get_or ds i no_definition_row).end (i + 1) (drop (i + 1) ds))) own) ∙ sym step ∙ whole)
+
+-- .. or it has none, and the rest is checked
+pub definition_on : (rows start i : ℕ) (ds : List DefinitionRow) (d : DefinitionRow) (all : Option DocumentFault) → i < length ds → d ≡ get_or ds i no_definition_row
+    → definitions_fault rows start i (drop i ds) ≡ all → Ok tt ≡ verdict_of (definition_fault d start (eqb (i + 1) (length ds)) rows)
+    → definitions_fault rows d.end (i + 1) (drop (i + 1) ds) ≡ all
+definition_on rows start i ds d all low is whole good =
+    let step = definitions_step rows start i ds low in
+    let own = ap (λ x. definition_fault x start (eqb (i + 1) (length ds)) rows) (sym is) ∙ verdict_ok _ (sym good) in
+    ap (λ x. definitions_fault rows x.end (i + 1) (drop (i + 1) ds)) is
+    ∙ sym (ap (λ x. at_row InDefinitions i x (definitions_fault rows (get_or ds i no_definition_row).end (i + 1) (drop (i + 1) ds))) own) ∙ sym step ∙ whole
 
 -- the rows of one definition more
 pub rows_step : (views : List RowView) (i : ℕ) (ds : List DefinitionRow) → i < length ds

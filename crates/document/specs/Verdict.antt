@@ -2,13 +2,14 @@
 use Rattle.std.specs.Prelude.{ℕ, ◌+◌, Bool, true, false, cond, not, ◌&&◌, ◌||◌, List, [], ◌∷◌, map, length, Some, None, Ok, Err, Option, Result, ◌==◌, nat_lt}
 use Rattle.refusal.specs.Firsts.{at_row, or_else}
 use Rattle.refusal.specs.declared.Layer.TheVariants.{DocumentTables}
+use Rattle.refusal.specs.declared.Reason.TheVariants as reason
 use Rattle.refusal.specs.declared.Refusal.{Refusal}
 use Rattle.refusal.specs.Layers.{refused}
 use Rattle.layout.specs.declared.row.RowFault.{RowFault}
-use Rattle.layout.specs.declared.row.RowFault.TheVariants.{NameMissing, Broken, TooDeep}
+use Rattle.layout.specs.declared.row.RowFault.TheVariants.{NameMissing, Broken}
 use Rattle.layout.specs.declared.row.RowView.{RowView}
 use Rattle.layout.specs.declared.row.Misfit.{Misfit}
-use Rattle.layout.specs.Places.{first_misfit}
+use Rattle.layout.specs.Places.{first_misfit, row_reason}
 use Rattle.document.specs.declared.rows.DefinitionRow.{DefinitionRow}
 use Rattle.document.specs.declared.rows.SelectionRow.{SelectionRow}
 use Rattle.document.specs.declared.fault.DocumentFault.{DocumentFault}
@@ -73,16 +74,10 @@ abbrev pub told_fault : {X : Type 0} → Result X DocumentFault → Option Docum
 told_fault (Ok x) = None
 told_fault (Err fault) = Some fault
 
--- the number of what is wrong with a row
-abbrev pub row_fault_number : RowFault → ℕ
-row_fault_number NameMissing = 5
-row_fault_number Broken = 10
-row_fault_number TooDeep = 11
-
--- the faults in numbers: all of them are faults of the document tables
+-- the faults as refusals: all of them are faults of the document tables
 abbrev pub document_refusal : DocumentFault → Refusal
-document_refusal TooManyDefinitions = refused 2 DocumentTables 0
-document_refusal TooManyRows = refused 3 DocumentTables 0
-document_refusal NoDefinition = refused 10 DocumentTables 0
-document_refusal (InDefinitions fault row) = refused (row_fault_number fault) DocumentTables row
-document_refusal (InRows fault row) = refused (row_fault_number fault) DocumentTables row
+document_refusal TooManyDefinitions = refused reason.TooManyDefinitions DocumentTables 0
+document_refusal TooManyRows = refused reason.TooManyRows DocumentTables 0
+document_refusal NoDefinition = refused reason.Broken DocumentTables 0
+document_refusal (InDefinitions fault row) = refused (row_reason fault) DocumentTables row
+document_refusal (InRows fault row) = refused (row_reason fault) DocumentTables row

@@ -1,11 +1,12 @@
 // Whether two tables are a document, and else their first fault.
 ghost use Rattle.std.specs.Prelude.{◌≡◌, ℕ, ◌≤◌, Bool, not, map, length, None};
+ghost use Rattle.refusal.specs.Firsts.{verdict_of};
 ghost use Rattle.document.specs.Rows.{selection_view};
 ghost use Rattle.document.specs.Verdict.{misplaced, definition_fault, definitions_fault, rows_fault, size_fault, orphan_fault, document_fault};
 
 use crate::fault::DocumentFault;
 use crate::rows::{DefinitionRow, SelectionRow};
-use layout::{RowFault, first_misfit};
+use layout::{RowFault, check_range};
 
 /// How many definitions and selection rows a document holds, and how deep selections stand.
 pub const MAX_DEFINITIONS: usize = 256;
@@ -25,86 +26,87 @@ fn is_misplaced(row: &DefinitionRow, start: u32, last: bool, rows: usize) -> boo
         || (row.is_type_system() && row.first != row.end)
 }
 
-// What is wrong with a definition, the smaller number first.
-fn row_fault(row: &DefinitionRow, start: u32, last: bool, rows: usize) -> Option<RowFault>
-    ensures { result ≡ definition_fault row.now start last rows }
+// Whether a definition is in order, else what is wrong with it, the smaller number first.
+fn check_definition(
+    row: &DefinitionRow,
+    start: u32,
+    last: bool,
+    rows: usize,
+) -> Result<(), RowFault>
+    ensures { result ≡ verdict_of (definition_fault row.now start last rows) }
 {
     if row.is_unnamed() {
-        return Some(RowFault::NameMissing);
+        return Err(RowFault::NameMissing);
     }
     if row.is_broken() || is_misplaced(row, start, last, rows) {
-        return Some(RowFault::Broken);
+        return Err(RowFault::Broken);
     }
-    None
+    Ok(())
 }
 
-// The first fault of the definitions.
-fn fault_in_definitions(definitions: &[DefinitionRow], rows: usize) -> Option<DocumentFault>
+// Whether the definitions are in order.
+fn check_definitions(definitions: &[DefinitionRow], rows: usize) -> Result<(), DocumentFault>
     requires { length definitions.now ≤ 256 }
-    ensures { result ≡ definitions_fault rows 0 0 definitions.now }
+    ensures { result ≡ verdict_of (definitions_fault rows 0 0 definitions.now) }
 {
     let mut start = 0;
-    for i in 0..definitions.len() {
-        let row = &definitions[i];
+    for (i, row) in definitions.iter().enumerate() {
         let last = i + 1 == definitions.len();
-        if let Some(fault) = row_fault(row, start, last, rows) {
-            return Some(DocumentFault::InDefinitions(fault, (i + 1) as u32));
-        }
+        check_definition(row, start, last, rows).map_err(|fault| DocumentFault::InDefinitions(
+            fault,
+            (i + 1) as u32,
+        ))?;
         start = row.end;
     }
-    None
+    Ok(())
 }
 
-// The first fault of the rows, whose ranges the definitions tell.
-fn fault_in_rows(definitions: &[DefinitionRow], rows: &[SelectionRow]) -> Option<DocumentFault>
+// Whether the rows are in order, whose ranges the definitions tell.
+fn check_rows(definitions: &[DefinitionRow], rows: &[SelectionRow]) -> Result<(), DocumentFault>
     requires few { length rows.now ≤ 4096 }
     requires ranges { definitions_fault (length rows.now) 0 0 definitions.now ≡ None }
-    ensures { result ≡ rows_fault (map selection_view rows.now) definitions.now }
+    ensures { result ≡ verdict_of (rows_fault (map selection_view rows.now) definitions.now) }
 {
-    for i in 0..definitions.len() {
-        let row = &definitions[i];
-        if let Some(misfit) = first_misfit(rows, row.first as usize, row.end as usize, MAX_DEPTH) {
-            return Some(DocumentFault::InRows(misfit.fault, misfit.row as u32));
-        }
+    for row in definitions {
+        check_range(rows, row.first as usize, row.end as usize, MAX_DEPTH).map_err(
+            |misfit| DocumentFault::InRows(misfit.fault, misfit.row as u32),
+        )?;
     }
-    None
+    Ok(())
 }
 
-// Rows without a definition belong to none.
-fn orphan_fault(definitions: &[DefinitionRow], rows: &[SelectionRow]) -> Option<DocumentFault>
-    ensures { result ≡ orphan_fault definitions.now rows.now }
+// Whether each row belongs to a definition.
+fn check_owner(definitions: &[DefinitionRow], rows: &[SelectionRow]) -> Result<(), DocumentFault>
+    ensures { result ≡ verdict_of (orphan_fault definitions.now rows.now) }
 {
-    match (definitions, rows) {
-        ([], [_, ..]) => Some(DocumentFault::NoDefinition),
-        _ => None,
+    if definitions.is_empty() && !rows.is_empty() {
+        return Err(DocumentFault::NoDefinition);
     }
+    Ok(())
 }
 
-/// The fault of tables that are too long.
-pub fn size_fault(definitions: usize, rows: usize) -> Option<DocumentFault>
-    ensures { result ≡ size_fault definitions rows }
+/// Whether tables of these lengths are short enough.
+pub fn check_sizes(definitions: usize, rows: usize) -> Result<(), DocumentFault>
+    ensures { result ≡ verdict_of (size_fault definitions rows) }
 {
     if definitions > MAX_DEFINITIONS {
-        return Some(DocumentFault::TooManyDefinitions);
+        return Err(DocumentFault::TooManyDefinitions);
     }
     if rows > MAX_ROWS {
-        return Some(DocumentFault::TooManyRows);
+        return Err(DocumentFault::TooManyRows);
     }
-    None
+    Ok(())
 }
 
-// The first fault of all.
-pub fn document_fault(definitions: &[DefinitionRow], rows: &[SelectionRow]) -> Option<DocumentFault>
-    ensures { result ≡ document_fault definitions.now rows.now }
+// Whether the tables are a document: sizes first, then definitions, then rows.
+pub fn check_tables(
+    definitions: &[DefinitionRow],
+    rows: &[SelectionRow],
+) -> Result<(), DocumentFault>
+    ensures { result ≡ verdict_of (document_fault definitions.now rows.now) }
 {
-    if let Some(fault) = size_fault(definitions.len(), rows.len()) {
-        return Some(fault);
-    }
-    if let Some(fault) = orphan_fault(definitions, rows) {
-        return Some(fault);
-    }
-    if let Some(fault) = fault_in_definitions(definitions, rows.len()) {
-        return Some(fault);
-    }
-    fault_in_rows(definitions, rows)
+    check_sizes(definitions.len(), rows.len())?;
+    check_owner(definitions, rows)?;
+    check_definitions(definitions, rows.len())?;
+    check_rows(definitions, rows)
 }

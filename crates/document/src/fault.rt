@@ -1,50 +1,45 @@
-// Why two tables are no document, and the refusal in numbers that says so.
-ghost use Rattle.std.specs.Prelude.{◌≡◌};
-ghost use Rattle.document.specs.Verdict.{row_fault_number, document_refusal};
-
+// Why two tables are no document, in words and as a refusal.
 use layout::RowFault;
-use refusal::{Layer, Refusal};
+use refusal::{Layer, Reason, Refusal};
+use thiserror::Error;
 
 /// Why a document is refused. A row is told by its place plus 1.
-#[derive(Clone, Copy)]
+#[derive(Clone, Copy, PartialEq, Eq, Debug, Error)]
 pub enum DocumentFault {
     /// More definitions than a document holds.
+    #[error("it has more definitions than a document holds")]
     TooManyDefinitions,
     /// More selection rows than a document holds.
+    #[error("it has more rows than a document holds")]
     TooManyRows,
     /// Rows, but no definition that they belong to.
+    #[error("it has rows, but no definition")]
     NoDefinition,
     /// The first faulty row is one of the definitions.
+    #[error("definition {1} {0}")]
     InDefinitions(RowFault, u32),
     /// The definitions are in order, and the first faulty row is one of the selections.
+    #[error("row {1} {0}")]
     InRows(RowFault, u32),
 }
 
-// The number of what is wrong with a row.
-fn row_fault_number(fault: RowFault) -> u32
-    ensures { result ≡ row_fault_number fault }
-{
-    match fault {
-        RowFault::NameMissing => 5,
-        RowFault::Broken => 10,
-        RowFault::TooDeep => 11,
-    }
-}
+impl From<DocumentFault> for Refusal {
+    ghost use Rattle.std.specs.Prelude.{◌≡◌};
+    ghost use Rattle.document.specs.Verdict.{document_refusal};
 
-impl DocumentFault {
-    /// The refusal in numbers.
-    pub fn refusal(self) -> Refusal
-        ensures { result ≡ document_refusal self }
-    {
-        let (number, row) = match self {
-            DocumentFault::TooManyDefinitions => (2, 0),
-            DocumentFault::TooManyRows => (3, 0),
-            DocumentFault::NoDefinition => (10, 0),
-            DocumentFault::InDefinitions(fault, row) => (row_fault_number(fault), row),
-            DocumentFault::InRows(fault, row) => (row_fault_number(fault), row),
+    ghost from_gives = { λ fault refusal. refusal ≡ document_refusal fault };
+
+    fn from(fault: DocumentFault) -> Refusal {
+        let (reason, row) = match fault {
+            DocumentFault::TooManyDefinitions => (Reason::TooManyDefinitions, 0),
+            DocumentFault::TooManyRows => (Reason::TooManyRows, 0),
+            DocumentFault::NoDefinition => (Reason::Broken, 0),
+            DocumentFault::InDefinitions(fault, row) | DocumentFault::InRows(fault, row) => {
+                (fault.into(), row)
+            }
         };
         Refusal {
-            number,
+            reason,
             layer: Layer::DocumentTables,
             row,
         }

@@ -7,9 +7,11 @@
 mod check;
 mod fault;
 mod handed;
+mod kinds;
 mod rows;
 
-pub use check::{MAX_DEFINITIONS, MAX_DEPTH, MAX_ROWS, size_fault};
+pub use check::{MAX_DEFINITIONS, MAX_DEPTH, MAX_ROWS, check_sizes};
 pub use fault::DocumentFault;
 pub use handed::{Document, Needs, SelectionSet, SelectionStep};
+pub use kinds::{DefinitionKind, SelectionKind};
 pub use rows::{DefinitionRow, SelectionRow};

@@ -1,7 +1,9 @@
 // The rows of a document as they are handed over; any member may hold anything.
 ghost use Rattle.std.specs.Prelude.{◌≡◌};
+ghost use Rattle.document.specs.Kinds.{selection_kind, definition_kind};
 ghost use Rattle.document.specs.Rows.{selection_of, selection_unnamed, selection_broken, selection_view, head_of, head_unnamed, head_broken, is_fragment, is_type_system, named_operation};
 
+use crate::kinds::{DefinitionKind, SelectionKind};
 use layout::{Row, RowView};
 
 /// A definition: an operation (kind 1), a fragment (2), or a part of the type system (3 to 17).
@@ -36,12 +38,19 @@ pub struct SelectionRow {
 }
 
 impl SelectionRow {
+    /// What the selection is, if its kind is one.
+    pub fn selection_kind(&self) -> Option<SelectionKind>
+        ensures { result ≡ selection_kind self.now.kind }
+    {
+        SelectionKind::try_from(self.kind).ok()
+    }
+
     // Whether the name is 0 although this kind of selection needs one.
     fn is_unnamed(&self) -> bool
         ensures { result ≡ selection_unnamed (selection_of self.now) }
     {
-        match self.kind {
-            1 | 2 => self.name == 0,
+        match self.selection_kind() {
+            Some(SelectionKind::Field | SelectionKind::Spread) => self.name == 0,
             _ => false,
         }
     }
@@ -50,61 +59,69 @@ impl SelectionRow {
     fn is_broken(&self) -> bool
         ensures { result ≡ selection_broken (selection_of self.now) }
     {
-        match self.kind {
-            1 => self.condition != 0 || self.condition_location != 0,
-            2 => {
+        match self.selection_kind() {
+            Some(SelectionKind::Field) => self.condition != 0 || self.condition_location != 0,
+            Some(SelectionKind::Spread) => {
                 self.alias != 0
                     || self.condition != 0
                     || self.arguments != 0
                     || self.name_location != 0
                     || self.condition_location != 0
             }
-            3 => self.name != 0
-                || self.alias != 0
-                || self.arguments != 0
-                || self.name_location != 0,
-            _ => true,
+            Some(SelectionKind::InlineFragment) => {
+                self.name != 0 || self.alias != 0 || self.arguments != 0 || self.name_location != 0
+            }
+            None => true,
         }
     }
 }
 
 impl DefinitionRow {
+    /// What the definition is, if its kind is one.
+    pub fn definition_kind(&self) -> Option<DefinitionKind>
+        ensures { result ≡ definition_kind self.now.kind }
+    {
+        DefinitionKind::try_from(self.kind).ok()
+    }
+
     /// Whether a name is 0 that this kind of definition needs.
     pub(crate) fn is_unnamed(&self) -> bool
         ensures { result ≡ head_unnamed (head_of self.now) }
     {
-        self.kind == 2 && (self.name == 0 || self.condition == 0)
+        self.is_fragment() && (self.name == 0 || self.condition == 0)
     }
 
     /// Whether the definition is an operation that has a name.
     pub(crate) fn is_named_operation(&self) -> bool
         ensures { result ≡ named_operation (head_of self.now) }
     {
-        self.kind == 1 && self.name != 0
+        matches!(self.definition_kind(), Some(DefinitionKind::Operation)) && self.name != 0
     }
 
     /// Whether the definition is a fragment.
     pub(crate) fn is_fragment(&self) -> bool
         ensures { result ≡ is_fragment (head_of self.now) }
     {
-        self.kind == 2
+        matches!(self.definition_kind(), Some(DefinitionKind::Fragment))
     }
 
     /// Whether the definition is one of the type system.
     pub(crate) fn is_type_system(&self) -> bool
         ensures { result ≡ is_type_system (head_of self.now) }
     {
-        matches!(self.kind, 3..=17)
+        matches!(self.definition_kind(), Some(DefinitionKind::TypeSystem))
     }
 
     /// Whether a member that this kind of definition does not use is not 0, or there is no such kind.
     pub(crate) fn is_broken(&self) -> bool
         ensures { result ≡ head_broken (head_of self.now) }
     {
-        match self.kind {
-            1 => self.operation_type > 2 || self.condition != 0 || self.condition_location != 0,
-            2 => self.operation_type != 0 || self.variables != 0,
-            3..=17 => {
+        match self.definition_kind() {
+            Some(DefinitionKind::Operation) => {
+                self.operation_type > 2 || self.condition != 0 || self.condition_location != 0
+            }
+            Some(DefinitionKind::Fragment) => self.operation_type != 0 || self.variables != 0,
+            Some(DefinitionKind::TypeSystem) => {
                 self.operation_type != 0
                     || self.condition != 0
                     || self.variables != 0
@@ -112,7 +129,7 @@ impl DefinitionRow {
                     || self.name_location != 0
                     || self.condition_location != 0
             }
-            _ => true,
+            None => true,
         }
     }
 }
@@ -123,7 +140,7 @@ impl Row for SelectionRow {
     fn view(&self) -> RowView {
         RowView {
             end: self.end,
-            leaf: self.kind == 2,
+            leaf: matches!(self.selection_kind(), Some(SelectionKind::Spread)),
             unnamed: self.is_unnamed(),
             broken: self.is_broken(),
         }

@@ -5,7 +5,7 @@
 #![tactic(auto)]
 
 use document::{DefinitionRow, Document, SelectionRow};
-use std::alloc::{AllocError, Global};
+use refusal::Refusal;
 use std::io;
 use std::time::{Duration, Instant};
 
@@ -29,29 +29,23 @@ const OPERATION: DefinitionRow = DefinitionRow {
     end: ROWS,
 };
 
-// How the rows stand.
-#[derive(Clone, Copy)]
-enum Shape {
-    // None beneath another.
-    Flat,
-    // In groups of sixteen: a field, and beneath it three fields with four fields beneath each.
-    Bushy,
-    // In chains of 32, each row beneath the one before it.
-    Chains,
+// Ends of rows by their places: none beneath another.
+fn flat(place: u32) -> u32 {
+    place.wrapping_add(1)
 }
 
-// The end of the row at this place.
-fn end_of(shape: Shape, place: u32) -> u32 {
-    let after = place.wrapping_add(1);
-    match shape {
-        Shape::Flat => after,
-        Shape::Bushy => match place % 16 {
-            0 => place.wrapping_add(16),
-            1 | 6 | 11 => place.wrapping_add(5),
-            _ => after,
-        },
-        Shape::Chains => (place - place % 32).wrapping_add(32),
+// In groups of sixteen: a field, and beneath it three fields with four fields beneath each.
+fn bushy(place: u32) -> u32 {
+    match place % 16 {
+        0 => place.wrapping_add(16),
+        1 | 6 | 11 => place.wrapping_add(5),
+        _ => place.wrapping_add(1),
     }
+}
+
+// In chains of 32, each row beneath the one before it.
+fn in_chains(place: u32) -> u32 {
+    (place - place % 32).wrapping_add(32)
 }
 
 fn field_row(end: u32) -> SelectionRow {
@@ -69,34 +63,20 @@ fn field_row(end: u32) -> SelectionRow {
     }
 }
 
-fn field_rows(heap: Global, shape: Shape) -> Result<Vec<SelectionRow>, AllocError> {
-    let mut rows = Vec::new(heap);
-    for place in 0..ROWS {
-        rows.push(field_row(end_of(shape, place)))?;
+// What a check of the document says, as a number.
+fn check_answer(document: &Document<'_>) -> u64 {
+    match document.check() {
+        Ok(()) => 1,
+        Err(fault) => u64::from(Refusal::from(fault).row),
     }
-    Ok(rows)
 }
 
-// What is asked of a document.
-#[derive(Clone, Copy)]
-enum Asked {
-    Check,
-    Needs,
-}
-
-// The answer as a number, which depends on the number before it.
-fn answer(document: &Document<'_>, asked: Asked, start: u64) -> u64 {
-    let worth = match asked {
-        Asked::Check => match document.check() {
-            Ok(()) => 1,
-            Err(fault) => u64::from(fault.refusal().row),
-        },
-        Asked::Needs => match document.needs() {
-            Ok(needs) => needs.path_keys as u64,
-            Err(fault) => u64::from(fault.refusal().row),
-        },
-    };
-    start.wrapping_mul(3).wrapping_add(worth)
+// What the document needs, as a number: the places for path keys.
+fn needs_answer(document: &Document<'_>) -> u64 {
+    match document.needs() {
+        Ok(needs) => needs.path_keys as u64,
+        Err(fault) => u64::from(Refusal::from(fault).row),
+    }
 }
 
 // Writes how long each row took, in tenths of a nanosecond.
@@ -109,35 +89,38 @@ fn report(rt: &HostRuntime, what: &str, spent: Duration) -> io::Result<()> {
 }
 
 // Asks round after round; the sum of the answers.
-fn measure(rt: &HostRuntime, what: &str, document: &Document<'_>, asked: Asked) -> io::Result<u64> {
+fn measure<F: Fn() -> u64>(rt: &HostRuntime, what: &str, ask: F) -> io::Result<u64>
+    requires { F.IsAlwaysCallable ask }
+{
     let start = Instant::now(rt)?;
-    let mut sum = 0;
-    for _ in 0..ROUNDS {
-        sum = answer(document, asked, sum);
-    }
+    let sum = (0..ROUNDS).fold(0u64, |sum, _| sum.wrapping_mul(3).wrapping_add(ask()));
     report(rt, what, start.elapsed(rt)?)?;
     Ok(sum)
 }
 
-// Measures one shape: the places for path keys, and the sums of the answers.
-fn measure_shape(rt: &HostRuntime, what: &str, shape: Shape) -> anyhow::Result<()> {
-    let rows = field_rows(rt.alloc(), shape)?;
+// Measures rows that end so: the places for path keys, and the sums of the answers.
+fn measure_rows<F: Fn(u32) -> u32>(rt: &HostRuntime, what: &str, end_of: F) -> anyhow::Result<()>
+    requires { F.IsAlwaysCallable end_of }
+{
+    let rows: Vec<SelectionRow> = (0..ROWS)
+        .map(|place| field_row(end_of(place)))
+        .collect(rt.alloc())?;
     let document = Document {
         definitions: &[OPERATION],
         rows: rows.as_slice(),
     };
-    let keys = answer(&document, Asked::Needs, 0);
+    let keys = needs_answer(&document);
     eprintln!(rt; "{what}")?;
-    let checks = measure(rt, "  check", &document, Asked::Check)?;
-    let needs = measure(rt, "  needs", &document, Asked::Needs)?;
+    let checks = measure(rt, "  check", || check_answer(&document))?;
+    let needs = measure(rt, "  needs", || needs_answer(&document))?;
     println!(rt; "{what}: path keys {keys}, checks {checks}, needs {needs}")?;
     Ok(())
 }
 
 fn run(rt: &HostRuntime) -> anyhow::Result<()> {
-    measure_shape(rt, "flat", Shape::Flat)?;
-    measure_shape(rt, "bushy", Shape::Bushy)?;
-    measure_shape(rt, "chains of 32", Shape::Chains)
+    measure_rows(rt, "flat", flat)?;
+    measure_rows(rt, "bushy", bushy)?;
+    measure_rows(rt, "chains of 32", in_chains)
 }
 
 fn main(rt: HostRuntime) -> anyhow::Result<()> {

@@ -1,42 +1,44 @@
 // Definitions at fault: every rule of the members, the ranges, and which of two faults is told.
 use crate::tables::{
-    DefinitionMembers, QUERY, Told, definition, definitions, flat, refused, verdicts,
+    BROKEN, DefinitionMembers, FINE, QUERY, UNNAMED, Verdicts, definition, definitions, flat,
+    refused, verdicts,
 };
+use refusal::Reason;
 use std::alloc::{AllocError, Global};
 use std::test::Fail;
 
-// Members of a definition, and the number of the refusal, 0 for none.
-const MEMBERS: [(DefinitionMembers, u32); 25] = [
+// Members of a definition, and why it is refused.
+const MEMBERS: [(DefinitionMembers, Option<Reason>); 25] = [
     // accepted: every member that a kind uses, and an operation's name location without a name
-    (QUERY, 0),
-    ([1, 2, 9, 0, 8, 7, 6, 5, 0], 0),
-    ([1, 1, 0, 0, 0, 0, 0, 5, 0], 0),
-    ([2, 0, 9, 8, 0, 7, 6, 5, 4], 0),
-    ([4, 0, 9, 0, 0, 0, 6, 0, 0], 0),
-    ([11, 0, 9, 0, 0, 0, 6, 0, 0], 0),
+    (QUERY, FINE),
+    ([1, 2, 9, 0, 8, 7, 6, 5, 0], FINE),
+    ([1, 1, 0, 0, 0, 0, 0, 5, 0], FINE),
+    ([2, 0, 9, 8, 0, 7, 6, 5, 4], FINE),
+    ([4, 0, 9, 0, 0, 0, 6, 0, 0], FINE),
+    ([11, 0, 9, 0, 0, 0, 6, 0, 0], FINE),
     // an operation
-    ([1, 3, 0, 0, 0, 0, 0, 0, 0], 10),
-    ([1, u32::MAX, 9, 0, 0, 0, 0, 0, 0], 10),
-    ([1, 0, 9, 8, 0, 0, 0, 0, 0], 10),
-    ([1, 0, 9, 0, 0, 0, 0, 0, 8], 10),
+    ([1, 3, 0, 0, 0, 0, 0, 0, 0], BROKEN),
+    ([1, u32::MAX, 9, 0, 0, 0, 0, 0, 0], BROKEN),
+    ([1, 0, 9, 8, 0, 0, 0, 0, 0], BROKEN),
+    ([1, 0, 9, 0, 0, 0, 0, 0, 8], BROKEN),
     // a fragment
-    ([2, 0, 0, 8, 0, 0, 0, 0, 0], 5),
-    ([2, 0, 9, 0, 0, 0, 0, 0, 0], 5),
-    ([2, 0, 0, 0, 0, 0, 0, 0, 0], 5),
-    ([2, 1, 9, 8, 0, 0, 0, 0, 0], 10),
-    ([2, 0, 9, 8, 7, 0, 0, 0, 0], 10),
+    ([2, 0, 0, 8, 0, 0, 0, 0, 0], UNNAMED),
+    ([2, 0, 9, 0, 0, 0, 0, 0, 0], UNNAMED),
+    ([2, 0, 0, 0, 0, 0, 0, 0, 0], UNNAMED),
+    ([2, 1, 9, 8, 0, 0, 0, 0, 0], BROKEN),
+    ([2, 0, 9, 8, 7, 0, 0, 0, 0], BROKEN),
     // no such kind, which needs no name
-    ([0, 0, 0, 0, 0, 0, 0, 0, 0], 10),
-    ([0, 0, 9, 8, 0, 0, 0, 0, 0], 10),
-    ([18, 0, 0, 0, 0, 0, 0, 0, 0], 10),
-    ([18, 0, 9, 0, 0, 0, 0, 0, 0], 10),
-    ([u32::MAX, 0, 9, 0, 0, 0, 0, 0, 0], 10),
+    ([0, 0, 0, 0, 0, 0, 0, 0, 0], BROKEN),
+    ([0, 0, 9, 8, 0, 0, 0, 0, 0], BROKEN),
+    ([18, 0, 0, 0, 0, 0, 0, 0, 0], BROKEN),
+    ([18, 0, 9, 0, 0, 0, 0, 0, 0], BROKEN),
+    ([u32::MAX, 0, 9, 0, 0, 0, 0, 0, 0], BROKEN),
     // two faults in one definition: the smaller number
-    ([2, 1, 0, 8, 0, 0, 0, 0, 0], 5),
-    ([2, 1, 9, 0, 0, 0, 0, 0, 0], 5),
-    ([2, 0, 0, 8, 7, 0, 0, 0, 0], 5),
-    ([2, 0, 9, 0, 7, 0, 0, 0, 0], 5),
-    ([1, 3, 0, 8, 0, 0, 0, 0, 8], 10),
+    ([2, 1, 0, 8, 0, 0, 0, 0, 0], UNNAMED),
+    ([2, 1, 9, 0, 0, 0, 0, 0, 0], UNNAMED),
+    ([2, 0, 0, 8, 7, 0, 0, 0, 0], UNNAMED),
+    ([2, 0, 9, 0, 7, 0, 0, 0, 0], UNNAMED),
+    ([1, 3, 0, 8, 0, 0, 0, 0, 8], BROKEN),
 ];
 
 // The refusal of three definitions without rows, one of which has these members instead.
@@ -44,7 +46,7 @@ fn with_definition(
     heap: Global,
     place: u32,
     members: DefinitionMembers,
-) -> Result<[Told; 2], AllocError> {
+) -> Result<Verdicts, AllocError> {
     let mut all = definitions(heap, &[(1, 0, 0, 0), (1, 0, 0, 0), (1, 0, 0, 0)])?;
     if let Some(row) = all.get_mut(place as usize) {
         *row = definition(members, 0, 0);
@@ -54,11 +56,10 @@ fn with_definition(
 
 #[test]
 fn members_at_fault(rt: HostRuntime) -> Result<(), Fail> {
-    for i in 0..MEMBERS.len() {
-        let (members, number) = MEMBERS[i];
+    for (i, &(members, reason)) in MEMBERS.iter().enumerate() {
         for place in [0u32, 1, 2] {
             let verdict = with_definition(rt.alloc(), place, members)?;
-            assert_eq!(rt; verdict, refused(number, place + 1), "{}", i);
+            assert_eq!(rt; verdict, refused(reason, place + 1), "{}", i);
         }
     }
     Ok(())
@@ -71,9 +72,13 @@ fn unused_by_the_type_system(rt: HostRuntime) -> Result<(), Fail> {
         for member in 1..9usize {
             let mut members = [kind, 0, 0, 0, 0, 0, 0, 0, 0];
             members[member] = 9;
-            let number = if member == 2 || member == 6 { 0 } else { 10 };
+            let reason = if member == 2 || member == 6 {
+                FINE
+            } else {
+                BROKEN
+            };
             let verdict = with_definition(rt.alloc(), 1, members)?;
-            assert_eq!(rt; verdict, refused(number, 2), "{}; {}", kind, member);
+            assert_eq!(rt; verdict, refused(reason, 2), "{}; {}", kind, member);
         }
     }
     Ok(())
@@ -87,7 +92,7 @@ fn type_system_with_rows(rt: HostRuntime) -> Result<(), Fail> {
         let all = definitions(rt.alloc(), &[(1, 0, 0, 1), (kind, 9, 1, 2)])?;
         assert_eq!(rt;
             verdicts(all.as_slice(), rows.as_slice()),
-            refused(10, 2),
+            refused(BROKEN, 2),
             "{}",
             kind
         );
@@ -95,63 +100,61 @@ fn type_system_with_rows(rt: HostRuntime) -> Result<(), Fail> {
     Ok(())
 }
 
-// Definitions by kind, name, first and end, over three fields, and the refusal by number and row.
-type Ranges = (&'static [(u32, u32, u32, u32)], u32, u32);
+// Definitions by kind, name, first and end, over three fields, and the refusal by reason and row.
+type Ranges = (&'static [(u32, u32, u32, u32)], Option<Reason>, u32);
 
 const RANGES: [Ranges; 20] = [
     // none at fault
-    (&[(1, 0, 0, 3)], 0, 0),
-    (&[(1, 0, 0, 0), (2, 9, 0, 3), (1, 9, 3, 3)], 0, 0),
+    (&[(1, 0, 0, 3)], FINE, 0),
+    (&[(1, 0, 0, 0), (2, 9, 0, 3), (1, 9, 3, 3)], FINE, 0),
     (
         &[(1, 0, 0, 1), (4, 9, 1, 1), (2, 9, 1, 2), (1, 0, 2, 3)],
-        0,
+        FINE,
         0,
     ),
     // a first that is not the end before it
-    (&[(1, 0, 1, 3)], 10, 1),
-    (&[(1, 0, 0, 1), (1, 0, 2, 3)], 10, 2),
-    (&[(1, 0, 0, 2), (1, 0, 1, 3)], 10, 2),
-    (&[(1, 0, 0, 2), (4, 0, 0, 0), (1, 0, 2, 3)], 10, 2),
+    (&[(1, 0, 1, 3)], BROKEN, 1),
+    (&[(1, 0, 0, 1), (1, 0, 2, 3)], BROKEN, 2),
+    (&[(1, 0, 0, 2), (1, 0, 1, 3)], BROKEN, 2),
+    (&[(1, 0, 0, 2), (4, 0, 0, 0), (1, 0, 2, 3)], BROKEN, 2),
     // an end before its first
-    (&[(1, 0, 0, 2), (1, 0, 2, 1), (1, 0, 1, 3)], 10, 2),
-    (&[(1, 0, 0, 3), (1, 0, 3, 0)], 10, 2),
+    (&[(1, 0, 0, 2), (1, 0, 2, 1), (1, 0, 1, 3)], BROKEN, 2),
+    (&[(1, 0, 0, 3), (1, 0, 3, 0)], BROKEN, 2),
     // an end past the table
-    (&[(1, 0, 0, 4)], 10, 1),
-    (&[(1, 0, 0, 1), (1, 0, 1, 4), (1, 0, 4, 3)], 10, 2),
-    (&[(1, 0, 0, 1), (1, 0, 1, u32::MAX)], 10, 2),
+    (&[(1, 0, 0, 4)], BROKEN, 1),
+    (&[(1, 0, 0, 1), (1, 0, 1, 4), (1, 0, 4, 3)], BROKEN, 2),
+    (&[(1, 0, 0, 1), (1, 0, 1, u32::MAX)], BROKEN, 2),
     // a last end that is not the table's
-    (&[(1, 0, 0, 0)], 10, 1),
-    (&[(1, 0, 0, 2)], 10, 1),
-    (&[(1, 0, 0, 1), (1, 0, 1, 2), (4, 0, 2, 2)], 10, 3),
+    (&[(1, 0, 0, 0)], BROKEN, 1),
+    (&[(1, 0, 0, 2)], BROKEN, 1),
+    (&[(1, 0, 0, 1), (1, 0, 1, 2), (4, 0, 2, 2)], BROKEN, 3),
     // the type system with rows
-    (&[(3, 0, 0, 3)], 10, 1),
-    (&[(1, 0, 0, 1), (17, 0, 1, 2), (1, 0, 2, 3)], 10, 2),
-    (&[(1, 0, 0, 1), (1, 0, 1, 2), (11, 0, 2, 3)], 10, 3),
+    (&[(3, 0, 0, 3)], BROKEN, 1),
+    (&[(1, 0, 0, 1), (17, 0, 1, 2), (1, 0, 2, 3)], BROKEN, 2),
+    (&[(1, 0, 0, 1), (1, 0, 1, 2), (11, 0, 2, 3)], BROKEN, 3),
     // two faults: the smaller number in one definition, else the earlier
-    (&[(1, 0, 0, 1), (2, 0, 2, 1), (18, 0, 1, 3)], 5, 2),
-    (&[(1, 0, 0, 1), (18, 0, 1, 2), (2, 0, 2, 3)], 10, 2),
+    (&[(1, 0, 0, 1), (2, 0, 2, 1), (18, 0, 1, 3)], UNNAMED, 2),
+    (&[(1, 0, 0, 1), (18, 0, 1, 2), (2, 0, 2, 3)], BROKEN, 2),
 ];
 
 // Each is judged with all fields in order, and with the first field at fault: definitions are told before rows.
 #[test]
 fn ranges_at_fault(rt: HostRuntime) -> Result<(), Fail> {
-    for i in 0..RANGES.len() {
-        let (ranges, number, row) = RANGES[i];
+    for (i, &(ranges, reason, row)) in RANGES.iter().enumerate() {
         let all = definitions(rt.alloc(), ranges)?;
         let mut rows = flat(rt.alloc(), 3)?;
         assert_eq!(rt;
             verdicts(all.as_slice(), rows.as_slice()),
-            refused(number, row),
+            refused(reason, row),
             "{}",
             i
         );
         if let Some(first) = rows.get_mut(0) {
             first.name = 0;
         }
-        let expected = if number == 0 {
-            refused(5, 1)
-        } else {
-            refused(number, row)
+        let expected = match reason {
+            None => refused(UNNAMED, 1),
+            Some(_) => refused(reason, row),
         };
         assert_eq!(rt;
             verdicts(all.as_slice(), rows.as_slice()),

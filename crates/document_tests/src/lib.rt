@@ -7,6 +7,8 @@ mod definition_faults;
 #[cfg(test)]
 mod limits;
 #[cfg(test)]
+mod numbers;
+#[cfg(test)]
 mod readings;
 #[cfg(test)]
 mod row_faults;

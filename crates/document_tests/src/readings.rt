@@ -1,6 +1,6 @@
 // What a document says of itself: the places that building it can need, and its selections, set by set.
 use crate::tables::{definitions, selections};
-use document::{Document, SelectionSet};
+use document::{Document, Needs, SelectionSet};
 use std::alloc::Global;
 use std::process::Abort;
 use std::test::Fail;
@@ -51,31 +51,24 @@ const NEEDED: [Needed; 8] = [
     ),
 ];
 
-// The places that building the document can need, if it is one.
-fn needed(document: &Document<'_>) -> Option<[usize; 5]> {
-    match document.needs() {
-        Ok(needs) => Some([
-            needs.operations,
-            needs.fragments,
-            needs.rows,
-            needs.errors,
-            needs.path_keys,
-        ]),
-        Err(_) => None,
-    }
-}
-
 #[test]
 fn places_needed(rt: HostRuntime) -> Result<(), Fail> {
-    for i in 0..NEEDED.len() {
-        let (ranges, shape, expected) = NEEDED[i];
+    for (i, &(ranges, shape, places)) in NEEDED.iter().enumerate() {
         let all = definitions(rt.alloc(), ranges)?;
         let rows = selections(rt.alloc(), shape)?;
         let document = Document {
             definitions: all.as_slice(),
             rows: rows.as_slice(),
         };
-        assert_eq!(rt; needed(&document), Some(expected), "{}", i);
+        let [operations, fragments, rows, errors, path_keys] = places;
+        let needs = Needs {
+            operations,
+            fragments,
+            rows,
+            errors,
+            path_keys,
+        };
+        assert_eq!(rt; document.needs(), Ok(needs), "{}", i);
     }
     Ok(())
 }

@@ -1,11 +1,23 @@
-// What the tests share: rows from numbers, tables of many rows, and the verdict on two tables.
-use document::{DefinitionRow, Document, DocumentFault, SelectionRow};
+// What the tests share: rows from numbers, tables of many rows, and the verdicts on two tables.
+use document::{DefinitionRow, Document, SelectionRow};
+use refusal::{Layer, Reason, Refusal};
 use std::alloc::{AllocError, Global};
 
-// The number of a refusal, its layer and its row; zeros for none.
-pub type Told = (u32, u32, u32);
+// What `check` and `needs` say of two tables: how they are refused, if they are.
+pub type Verdicts = [Option<Refusal>; 2];
 
-pub const NONE: Told = (0, 0, 0);
+// Why tables are refused, if they are.
+pub const FINE: Option<Reason> = None;
+
+pub const UNNAMED: Option<Reason> = Some(Reason::NameMissing);
+
+pub const BROKEN: Option<Reason> = Some(Reason::Broken);
+
+pub const TOO_DEEP: Option<Reason> = Some(Reason::TooDeep);
+
+pub const TOO_MANY_DEFINITIONS: Option<Reason> = Some(Reason::TooManyDefinitions);
+
+pub const TOO_MANY_ROWS: Option<Reason> = Some(Reason::TooManyRows);
 
 // The members of a definition up to its range.
 pub type DefinitionMembers = [u32; 9];
@@ -54,11 +66,10 @@ pub fn selections(
     heap: Global,
     shape: &[(u32, u32, u32)],
 ) -> Result<Vec<SelectionRow>, AllocError> {
-    let mut rows = Vec::new(heap);
-    for (kind, name, end) in shape {
-        rows.push(selection([*kind, *name, 0, 0, 0, 0, 0, 0, 0], *end))?;
-    }
-    Ok(rows)
+    shape
+        .iter()
+        .map(|&(kind, name, end)| selection([kind, name, 0, 0, 0, 0, 0, 0, 0], end))
+        .collect(heap)
 }
 
 // Definitions by kind, name, first and end; a fragment has a condition.
@@ -66,54 +77,43 @@ pub fn definitions(
     heap: Global,
     ranges: &[(u32, u32, u32, u32)],
 ) -> Result<Vec<DefinitionRow>, AllocError> {
-    let mut rows = Vec::new(heap);
-    for (kind, name, first, end) in ranges {
-        let condition = if *kind == 2 { 8 } else { 0 };
-        rows.push(definition([*kind, 0, *name, condition, 0, 0, 0, 0, 0], *first, *end))?;
-    }
-    Ok(rows)
+    ranges
+        .iter()
+        .map(|&(kind, name, first, end)| {
+            let condition = if kind == 2 { 8 } else { 0 };
+            definition([kind, 0, name, condition, 0, 0, 0, 0, 0], first, end)
+        })
+        .collect(heap)
 }
 
 // So many fields, none beneath another.
 pub fn flat(heap: Global, count: u16) -> Result<Vec<SelectionRow>, AllocError> {
-    let mut rows = Vec::new(heap);
-    for i in 0..count {
-        rows.push(selection(FIELD, u32::from(i) + 1))?;
-    }
-    Ok(rows)
+    (0..count)
+        .map(|i| selection(FIELD, u32::from(i) + 1))
+        .collect(heap)
 }
 
 // So many fields, each beneath the one before it.
 pub fn chain(heap: Global, count: u16) -> Result<Vec<SelectionRow>, AllocError> {
-    let mut rows = Vec::new(heap);
-    for _ in 0..count {
-        rows.push(selection(FIELD, u32::from(count)))?;
-    }
-    Ok(rows)
+    (0..count)
+        .map(|_| selection(FIELD, u32::from(count)))
+        .collect(heap)
 }
 
-fn told(verdict: Result<(), DocumentFault>) -> Told {
-    match verdict {
-        Ok(()) => NONE,
-        Err(fault) => {
-            let refusal = fault.refusal();
-            (refusal.number, refusal.layer.number(), refusal.row)
-        }
-    }
-}
-
-// The refusal of the tables by `check` and by `needs`.
-pub fn verdicts<'a>(definitions: &'a [DefinitionRow], rows: &'a [SelectionRow]) -> [Told; 2] {
+pub fn verdicts<'a>(definitions: &'a [DefinitionRow], rows: &'a [SelectionRow]) -> Verdicts {
     let document = Document { definitions, rows };
-    let needs = match document.needs() {
-        Ok(_) => NONE,
-        Err(fault) => told(Err(fault)),
-    };
-    [told(document.check()), needs]
+    [
+        document.check().err().map(Refusal::from),
+        document.needs().err().map(Refusal::from),
+    ]
 }
 
-// The refusal with this number at this row; none for 0.
-pub fn refused(number: u32, row: u32) -> [Told; 2] {
-    let refusal = if number == 0 { NONE } else { (number, 2, row) };
+// Refused for this reason at this row, by `check` and by `needs`; by neither where there is no reason.
+pub fn refused(reason: Option<Reason>, row: u32) -> Verdicts {
+    let refusal = reason.map(|reason| Refusal {
+        reason,
+        layer: Layer::DocumentTables,
+        row,
+    });
     [refusal; 2]
 }

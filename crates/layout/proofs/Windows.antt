@@ -1,8 +1,8 @@
 -- A row in a range, and in the smaller range beneath a row: what encloses it, how deep it stands, what is wrong with it.
-use Rattle.std.proofs.Common.{◌≡◌, ℕ, zero, suc, ◌+◌, ◌-◌, ◌<◌, ◌≤◌, Bool, true, false, cond, not, ◌&&◌, eqb, ltb, leb, List, get_or, IfSome, Some, None, Option, sym, refl, ap, ◌∙◌, subst, ⊎_elim, arith}
+use Rattle.std.proofs.Common.{◌≡◌, ℕ, zero, suc, ◌+◌, ◌-◌, ◌<◌, ◌≤◌, Bool, true, false, cond, not, ◌&&◌, eqb, ltb, leb, List, get_or, IfErr, Some, None, Ok, Err, Option, Result, sym, refl, ap, ◌∙◌, subst, ⊎_elim, arith}
 use Rattle.std.proofs.lemmas.Bool.{cond-true, cond-false, cond_both, lt-ltb, le-ltb, le-leb, lt-leb, leb-false, ltb-false, eqb-true, eqb-false, eq-eqb, ne_eqb, or_parts, or_from, and_cases, and_left, and_right, not_from_true, not-false, cases_eq, cases_lt, cases_Bool, false≢true}
-use Rattle.refusal.specs.Firsts.{at_row, first_fault, or_else}
-use Rattle.refusal.proofs.Firsts.{fault_next, fault_here, first_same, first_parts, no_fault}
+use Rattle.refusal.specs.Firsts.{at_row, first_fault, or_else, verdict_of}
+use Rattle.refusal.proofs.Firsts.{verdict_ok, verdict_err, fault_next, fault_here, first_same, first_parts, no_fault}
 use Rattle.layout.specs.declared.row.RowFault.{RowFault}
 use Rattle.layout.specs.declared.row.RowFault.TheVariants.{NameMissing, Broken, TooDeep}
 use Rattle.layout.specs.declared.row.RowView.{RowView}
@@ -212,31 +212,52 @@ module _ (views : List RowView) where
       (cases_eq j i))
       (cases_lt j i)
 
-  -- a turn of the search at a row that is seen as v: it does not fit ..
-  pub turn_here : (start end room i : ℕ) (v : RowView) (f : RowFault) (all : Option Misfit) → v ≡ get_or views i no_view → start ≤ i → Closed start i → i < end
-      → first_fault misfit (fault_in views start end room) i (end - i) ≡ all → Some f ≡ own_fault v i end (eqb room 0) → Some (misfit f (i + 1)) ≡ all
-  turn_here start end room i v f all seen from closed low whole bad =
-      let here : fault_in views start end room i ≡ Some f = fault_next_row start end room i from closed ∙ ap (λ x. own_fault x i end (eqb room 0)) (sym seen) ∙ sym bad in
-      sym (fault_here misfit (fault_in views start end room) i (end - i) (end - (i + 1)) f (omega arith) here) ∙ whole
+  -- a search that has come to i: the rows so far fit, and the rows to come have the first that does not
+  pub record Searched (start end room i : ℕ) : Type 0 where
+    pub from : start ≤ i
+    pub inside : i ≤ end
+    pub closed : Closed start i
+    pub whole : first_fault misfit (fault_in views start end room) i (end - i) ≡ first_misfit views start end room
 
-  -- .. or it fits, and what is beneath it is searched
-  pub turn_on : (start end room i : ℕ) (v : RowView) (all r : Option Misfit) → v ≡ get_or views i no_view → start ≤ i → Closed start i → i < end
-      → first_fault misfit (fault_in views start end room) i (end - i) ≡ all → None ≡ own_fault v i end (eqb room 0) → r ≡ first_misfit views (i + 1) v.end (room - 1)
-      → (i < v.end) × (v.end ≤ end) × (or_else r (first_fault misfit (fault_in views start end room) v.end (end - v.end)) ≡ all) × (r ≡ None → Closed start v.end)
-  turn_on start end room i v all r seen from closed low whole good beneath =
-      let fit = fits v i end (eqb room 0) (sym good) in
-      let next : v.end ≡ end_at views i = ap (λ x. x.end) seen in
-      let some : 0 < room = let z = eqb-false room 0 fit.shallow in omega arith in
-      let fine : fault_in views start end room i ≡ None = fault_next_row start end room i from closed ∙ ap (λ x. own_fault x i end (eqb room 0)) (sym seen) ∙ sym good in
-      let fault = fault_in views start end room in
-      let step = search_step start end room i from closed low some (omega (arith, fit.above)) (omega (arith, fit.inside)) fine in
-      let told : r ≡ first_misfit views (i + 1) (end_at views i) (room - 1) = beneath ∙ ap (λ e. first_misfit views (i + 1) e (room - 1)) next in (
-        fit.above,
-        fit.inside,
-        ap (λ x. or_else x (first_fault misfit fault v.end (end - v.end))) told
-            ∙ ap (λ e. or_else (first_misfit views (i + 1) (end_at views i) (room - 1)) (first_fault misfit fault e (end - e))) next ∙ sym step ∙ whole,
-        λ none. subst (λ (e : ℕ). Closed start e) (sym next) (closed_next start room i from closed (omega (arith, fit.above)) (sym told ∙ none)),
-      )
+  -- a turn of the search at a row that is seen as v
+  module _ (start end room i : ℕ) (v : RowView) (seen : v ≡ get_or views i no_view) (low : i < end) (at : Searched start end room i) where
+    own_here : fault_in views start end room i ≡ own_fault v i end (eqb room 0)
+    own_here = fault_next_row start end room i at.from at.closed ∙ ap (λ x. own_fault x i end (eqb room 0)) (sym seen)
+
+    -- the row does not fit
+    pub turn_here : (f : RowFault) → Err f ≡ verdict_of (own_fault v i end (eqb room 0)) → Err (misfit f (i + 1)) ≡ verdict_of (first_misfit views start end room)
+    turn_here f bad =
+        ap verdict_of
+        (sym (fault_here misfit (fault_in views start end room) i (end - i) (end - (i + 1)) f (omega arith) (own_here ∙ verdict_err _ f (sym bad))) ∙ at.whole)
+
+    -- it fits: what is beneath it is searched, then the rest
+    turn : Ok tt ≡ verdict_of (own_fault v i end (eqb room 0)) → (r : Option Misfit) → r ≡ first_misfit views (i + 1) v.end (room - 1)
+        → (i < v.end) × (v.end ≤ end) × (or_else r (first_fault misfit (fault_in views start end room) v.end (end - v.end)) ≡ first_misfit views start end room) × (r ≡ None → Closed start v.end)
+    turn fitting r beneath =
+        let good = verdict_ok _ (sym fitting) in
+        let fit = fits v i end (eqb room 0) good in
+        let next : v.end ≡ end_at views i = ap (λ x. x.end) seen in
+        let some : 0 < room = let z = eqb-false room 0 fit.shallow in omega arith in
+        let fault = fault_in views start end room in
+        let step = search_step start end room i at.from at.closed low some (omega (arith, fit.above)) (omega (arith, fit.inside)) (own_here ∙ good) in
+        let told : r ≡ first_misfit views (i + 1) (end_at views i) (room - 1) = beneath ∙ ap (λ e. first_misfit views (i + 1) e (room - 1)) next in (
+          fit.above,
+          fit.inside,
+          ap (λ x. or_else x (first_fault misfit fault v.end (end - v.end))) told
+              ∙ ap (λ e. or_else (first_misfit views (i + 1) (end_at views i) (room - 1)) (first_fault misfit fault e (end - e))) next ∙ sym step ∙ at.whole,
+          λ none. subst (λ (e : ℕ). Closed start e) (sym next) (closed_next start room i at.from at.closed (omega (arith, fit.above)) (sym told ∙ none)),
+        )
+
+    -- a row beneath it does not fit
+    pub turn_beneath : (m : Misfit) → Ok tt ≡ verdict_of (own_fault v i end (eqb room 0)) → Err m ≡ verdict_of (first_misfit views (i + 1) v.end (room - 1))
+        → Err m ≡ verdict_of (first_misfit views start end room)
+    turn_beneath m fitting bad = ap verdict_of (turn fitting (Some m) (sym (verdict_err _ m (sym bad)))).2
+
+    -- all rows beneath it fit
+    pub turn_on : Ok tt ≡ verdict_of (own_fault v i end (eqb room 0)) → Ok tt ≡ verdict_of (first_misfit views (i + 1) v.end (room - 1)) → Searched start end room v.end
+    turn_on fitting good =
+        let all = turn fitting None (sym (verdict_ok _ (sym good))) in
+        record { from = omega (arith, at.from, all.0); inside = all.1; closed = all.3 refl; whole = all.2 }
 
 -- the row that is told is one of those searched
 row_by : (i left : ℕ) (m : Misfit) (f : Option RowFault) (rest : Option Misfit) → at_row misfit i f rest ≡ Some m → (rest ≡ Some m → m.row ≤ i + 1 + left) → m.row ≤ i + suc left
@@ -250,6 +271,6 @@ pub told_row : (fault : ℕ → Option RowFault) (i left : ℕ) (m : Misfit) →
 told_row fault i zero m is = let z : ◌≡◌ {A = ℕ} 0 1 = cc in absurd (omega arith)
 told_row fault i (suc left) m is = row_by i left m (fault i) (first_fault misfit fault (i + 1) left) is (told_row fault (i + 1) left m)
 
-pub inside_rows : (fault : ℕ → Option RowFault) (i left n : ℕ) (r : Option Misfit) → i + left ≤ n → r ≡ first_fault misfit fault i left → IfSome r (λ m. m.row ≤ n)
-inside_rows fault i left n None few is = tt
-inside_rows fault i left n (Some m) few is = let low = told_row fault i left m (sym is) in omega arith
+pub inside_rows : (fault : ℕ → Option RowFault) (i left n : ℕ) (r : Result Unit Misfit) → i + left ≤ n → r ≡ verdict_of (first_fault misfit fault i left) → IfErr r (λ m. m.row ≤ n)
+inside_rows fault i left n (Ok x) few is = tt
+inside_rows fault i left n (Err m) few is = let low = told_row fault i left m (verdict_err _ m (sym is)) in omega arith

@@ -1,17 +1,25 @@
 -- Which row of a range does not fit, by what the layout sees of the rows.
-use Rattle.std.specs.Prelude.{ℕ, zero, suc, ◌+◌, ◌-◌, Bool, false, cond, not, ◌&&◌, ◌||◌, List, get_or, Some, None, Option, ◌==◌, nat_le, nat_lt, slice_index_or}
+use Rattle.std.specs.Prelude.{ℕ, zero, suc, ◌+◌, ◌-◌, Bool, false, cond, not, ◌&&◌, ◌||◌, List, Some, None, Option, ◌==◌, nat_le, nat_lt, slice_index_or}
 use Rattle.refusal.specs.Firsts.{first_fault}
+use Rattle.refusal.specs.declared.Reason.{Reason}
+use Rattle.refusal.specs.declared.Reason.TheVariants as reason
 use Rattle.layout.specs.declared.row.RowFault.{RowFault}
 use Rattle.layout.specs.declared.row.RowFault.TheVariants.{NameMissing, Broken, TooDeep}
 use Rattle.layout.specs.declared.row.RowView.{RowView}
 use Rattle.layout.specs.declared.row.Misfit.{Misfit}
+
+-- why a table is refused that has a row with this fault
+abbrev pub row_reason : RowFault → Reason
+row_reason NameMissing = reason.NameMissing
+row_reason Broken = reason.Broken
+row_reason TooDeep = reason.TooDeep
 
 abbrev pub no_view : RowView
 no_view = record { end = 0; leaf = false; unnamed = false; broken = false }
 
 -- the end of the row at a place
 abbrev pub end_at : List RowView → ℕ → ℕ
-end_at views j = (get_or views j no_view).end
+end_at views j = (slice_index_or views j no_view).end
 
 -- of the n rows from `first` on, how many are still open at the place k: their ends lie behind it
 abbrev pub open_at : List RowView → ℕ → ℕ → ℕ → ℕ

@@ -1,56 +1,54 @@
-// The first row that does not fit: a loop over the rows of a set, and a recursion for the rows beneath each.
-ghost use Rattle.std.specs.Prelude.{◌≡◌, ℕ, ◌<◌, ◌≤◌, min, false, map, length, IfSome, ◌==◌};
+// Whether the rows of a range fit: a loop over the rows of a set, and a recursion for the rows beneath each.
+ghost use Rattle.std.specs.Prelude.{◌≡◌, ℕ, ◌<◌, ◌≤◌, min, false, map, length, IfErr, ◌==◌};
+ghost use Rattle.refusal.specs.Firsts.{verdict_of};
 ghost use Rattle.layout.specs.Places.{own_fault, first_misfit};
 
 use crate::row::{Misfit, Row, RowFault, RowView};
 
-// What is wrong with a row at place k in a set that ends at `end`, where so many levels are left.
-fn row_fault(view: RowView, k: usize, end: usize, room: u32) -> Option<RowFault>
+// Whether a row fits at place k in a set that ends at `end`, where so many levels are left.
+fn check_row(view: RowView, k: usize, end: usize, room: u32) -> Result<(), RowFault>
     requires { k < end }
-    ensures { result ≡ own_fault view k end (room == 0) }
+    ensures { result ≡ verdict_of (own_fault view k end (room == 0)) }
 {
     if view.unnamed {
-        return Some(RowFault::NameMissing);
+        return Err(RowFault::NameMissing);
     }
     let next = view.end as usize;
     if view.broken || next <= k || next > end {
-        return Some(RowFault::Broken);
+        return Err(RowFault::Broken);
     }
     if view.leaf && next != k + 1 {
-        return Some(RowFault::Broken);
+        return Err(RowFault::Broken);
     }
     if room == 0 {
-        return Some(RowFault::TooDeep);
+        return Err(RowFault::TooDeep);
     }
-    None
+    Ok(())
 }
 
-fn misfit_in_set<R: Row>(rows: &[R], start: usize, end: usize, room: u32) -> Option<Misfit>
+// The set's next row stands at the end of the row before it, not at the next place: so no iterator goes over a set.
+fn check_set<R: Row>(rows: &[R], start: usize, end: usize, room: u32) -> Result<(), Misfit>
     requires within { end ≤ length rows.now }
     requires ordered { start ≤ end }
-    ensures { result ≡ first_misfit (map R.Row.seen rows.now) start end room }
+    ensures { result ≡ verdict_of (first_misfit (map R.Row.seen rows.now) start end room) }
 {
     let mut i = start;
     while i < end {
         let view = rows[i].view();
-        if let Some(fault) = row_fault(view, i, end, room) {
-            return Some(Misfit { fault, row: i + 1 });
-        }
+        check_row(view, i, end, room).map_err(|fault| Misfit { fault, row: i + 1 })?;
         let next = view.end as usize;
-        if let Some(misfit) = misfit_in_set(rows, i + 1, next, room - 1) {
-            return Some(misfit);
-        }
+        check_set(rows, i + 1, next, room - 1)?;
         i = next;
     }
-    None
+    Ok(())
 }
 
-/// The first row from `start` up to `end` that does not fit into a forest at most `room` deep. A range that reaches
-/// past the rows ends with them.
-pub fn first_misfit<R: Row>(rows: &[R], start: usize, end: usize, room: u32) -> Option<Misfit>
-    ensures inside { IfSome result (λ m. m.row ≤ length rows.now) }
-    ensures first { result ≡ first_misfit (map R.Row.seen rows.now) (min start (min end (length rows.now))) (min end (length rows.now)) room }
+/// Whether the rows from `start` up to `end` fit into a forest at most `room` deep; else the first that does not. A
+/// range that reaches past the rows ends with them.
+pub fn check_range<R: Row>(rows: &[R], start: usize, end: usize, room: u32) -> Result<(), Misfit>
+    ensures inside { IfErr result (λ m. m.row ≤ length rows.now) }
+    ensures first { result ≡ verdict_of (first_misfit (map R.Row.seen rows.now) (min start (min end (length rows.now))) (min end (length rows.now)) room) }
 {
     let end = end.min(rows.len());
-    misfit_in_set(rows, start.min(end), end, room)
+    check_set(rows, start.min(end), end, room)
 }

@@ -2,19 +2,39 @@
 ghost use Rattle.std.specs.Prelude.{◌≡◌};
 ghost use Rattle.layout.specs.declared.row.RowView.{RowView};
 
-/// What is wrong with a row.
-#[derive(Clone, Copy)]
+use refusal::Reason;
+use thiserror::Error;
+
+/// What is wrong with a row, in words that follow the row.
+#[derive(Clone, Copy, PartialEq, Eq, Debug, Error)]
 pub enum RowFault {
     /// A name that is 0 where one is needed.
+    #[error("lacks a name")]
     NameMissing,
     /// A member or the end breaks the layout.
+    #[error("breaks the layout")]
     Broken,
     /// The row stands deeper than is allowed.
+    #[error("stands deeper than 32")]
     TooDeep,
 }
 
+impl From<RowFault> for Reason {
+    ghost use Rattle.layout.specs.Places.{row_reason};
+
+    ghost from_gives = { λ fault reason. reason ≡ row_reason fault };
+
+    fn from(fault: RowFault) -> Reason {
+        match fault {
+            RowFault::NameMissing => Reason::NameMissing,
+            RowFault::Broken => Reason::Broken,
+            RowFault::TooDeep => Reason::TooDeep,
+        }
+    }
+}
+
 /// What the layout sees of a row.
-#[derive(Clone, Copy)]
+#[derive(Clone, Copy, PartialEq, Eq, Debug)]
 pub struct RowView {
     /// The place after the rows beneath the row.
     pub end: u32,
@@ -35,7 +55,7 @@ pub trait Row: Copy {
 }
 
 /// The first row that does not fit: what is wrong with it, and its place plus 1.
-#[derive(Clone, Copy)]
+#[derive(Clone, Copy, PartialEq, Eq, Debug)]
 pub struct Misfit {
     pub fault: RowFault,
     pub row: usize,

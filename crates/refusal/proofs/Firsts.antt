@@ -1,6 +1,8 @@
 -- The steps of a search for the first fault, and what its absence says of each row.
-use Rattle.std.proofs.Common.{◌≡◌, ℕ, zero, suc, ◌+◌, ◌<◌, Some, None, Option, refl, ap, ◌∙◌, arith}
-use Rattle.refusal.specs.Firsts.{at_row, first_fault, or_else}
+use Rattle.std.proofs.Common.{◌≡◌, ℕ, zero, suc, ◌+◌, ◌<◌, true, false, Some, None, Ok, Err, Option, Result, sym, refl, ap, ◌∙◌, arith}
+use Rattle.std.specs.Result.{is_ok}
+use Rattle.std.proofs.lemmas.Bool.{false≢true}
+use Rattle.refusal.specs.Firsts.{at_row, first_fault, or_else, verdict_of}
 
 module _ {F G : Type 0} (told : F → ℕ → G) (fault : ℕ → Option F) where
   -- a row without a fault hands on to the next
@@ -60,3 +62,30 @@ first_parts told fault i (suc a) b =
 pub or_else_none : {G : Type 0} (a b : Option G) → or_else a b ≡ None → (a ≡ None) × (b ≡ None)
 or_else_none None b is = (refl, is)
 or_else_none (Some x) b is = let z : ◌≡◌ {A = ℕ} 0 1 = cc in absurd (omega arith)
+
+-- what the answer of a check says of the fault
+pub verdict_ok : {G : Type 0} (a : Option G) → verdict_of a ≡ Ok tt → a ≡ None
+verdict_ok None is = refl
+verdict_ok (Some x) is = let z : ◌≡◌ {A = ℕ} 0 1 = cc in absurd (omega arith)
+
+pub verdict_err : {G : Type 0} (a : Option G) (x : G) → verdict_of a ≡ Err x → a ≡ Some x
+verdict_err None x is = let z : ◌≡◌ {A = ℕ} 0 1 = cc in absurd (omega arith)
+verdict_err (Some y) x is = cc
+
+-- the answer of a check by whether it is good
+pub is_fine : {G : Type 0} (r : Result Unit G) → true ≡ is_ok r → r ≡ Ok tt
+is_fine (Ok tt) is = refl
+is_fine (Err x) is = absurd (false≢true (sym is))
+
+pub is_fault : {G : Type 0} (r : Result Unit G) → false ≡ is_ok r → (x : G) × (r ≡ Err x)
+is_fault (Ok x) is = absurd (false≢true is)
+is_fault (Err x) is = (x, refl)
+
+-- the answer of two checks, one after the other
+pub passed : {G : Type 0} (a b : Option G) → Ok tt ≡ verdict_of a → verdict_of (or_else a b) ≡ verdict_of b
+passed None b is = refl
+passed (Some x) b is = let z : ◌≡◌ {A = ℕ} 0 1 = cc in absurd (omega arith)
+
+pub failed : {G : Type 0} (a b : Option G) (x : G) → Err x ≡ verdict_of a → Err x ≡ verdict_of (or_else a b)
+failed None b x is = let z : ◌≡◌ {A = ℕ} 0 1 = cc in absurd (omega arith)
+failed (Some y) b x is = is

@@ -4,8 +4,7 @@
 ghost use Rattle.std.specs.Prelude.{◌≡◌};
 ghost use Rattle.refusal.specs.Layers.{layer_number, reason_number};
 
-use std::error::Error;
-use std::fmt;
+use thiserror::Error;
 
 /// The layers of the library, from the bottom up.
 #[derive(Clone, Copy, PartialEq, Eq, Debug)]
@@ -80,14 +79,6 @@ pub struct Refusal {
 }
 
 /// A number that stands for no case of an enum.
-#[derive(Clone, Copy, PartialEq, Eq, Debug)]
+#[derive(Clone, Copy, PartialEq, Eq, Debug, Error)]
+#[error("no case has the number {0}")]
 pub struct UnknownNumber(pub u32);
-
-impl fmt::Display for UnknownNumber {
-    fn fmt<W: fmt::Write>(&self, f: &mut fmt::Formatter<W>) -> fmt::Result {
-        let UnknownNumber(number) = *self;
-        write!(f, "no case has the number {number}")
-    }
-}
-
-impl Error for UnknownNumber {}

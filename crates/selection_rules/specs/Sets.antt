@@ -8,7 +8,7 @@ use Rattle.selection_rules.specs.declared.settling.SelectionFault.TheVariants.{U
 use Rattle.selection_rules.specs.declared.settling.Settled.{Settled}
 use Rattle.selection_rules.specs.declared.settling.Settled.TheVariants.{Kept, Dropped, Faulty}
 use Rattle.selection_rules.specs.Stored.{Form, field, spread, inline, form_of, Stored, stored_in}
-use Rattle.selection_rules.specs.Settle.{Meaning as Answers, meaning, looked_up, conditioned}
+use Rattle.selection_rules.specs.Settle.{looked_up, conditioned}
 use Rattle.selection_rules.specs.Errors.{Path, Error, undefined_type_in_inline_fragment, subselection_on_scalar_type, subselection_on_enum_type, undefined_field}
 
 -- the key of a field in a response: its alias, else its name
@@ -32,16 +32,12 @@ abbrev pub some_row : {A : Type 0} → Forest A → Bool
 some_row none = false
 some_row (row a below after) = true
 
--- what a schema answers about types and fields
-abbrev pub answers : Meaning → Answers
-answers m = meaning m.known m.sort m.field
-
 -- What becomes of a selection in the type around it, form by form: `Kept` tells the place of its definition, and the type
 -- around what stands beneath it. Nothing stands beneath a spread of a document, so that type is the one around the spread.
 abbrev pub settled_as : Form → Meaning → ℕ → Selection → Bool → Settled
-settled_as field m around s beneath = looked_up (answers m) beneath (m.field around s.name)
+settled_as field m around s beneath = looked_up m beneath (m.field around s.name)
 settled_as spread m around s beneath = Kept 0 around
-settled_as inline m around s beneath = conditioned (answers m) around s.condition
+settled_as inline m around s beneath = conditioned m around s.condition
 
 abbrev pub settled_in : Meaning → ℕ → Selection → Bool → Settled
 settled_in m around s beneath = settled_as (form_of s) m around s beneath

@@ -5,19 +5,11 @@ use Rattle.schema.specs.declared.answers.TypeKind.TheVariants.{Scalar, Object, I
 use Rattle.schema.specs.declared.answers.FieldDefinition.{FieldDefinition}
 use Rattle.schema.specs.declared.answers.FieldLookupError.{FieldLookupError}
 use Rattle.schema.specs.declared.answers.FieldLookupError.TheVariants.{NoSuchType, NoSuchField}
+use Rattle.schema.specs.Meaning.{Meaning}
 use Rattle.document.specs.Rows.{Selection, is_field, is_spread}
 use Rattle.selection_rules.specs.declared.settling.SelectionFault.TheVariants.{UnknownCondition, OnScalar, OnEnum, UnknownField}
 use Rattle.selection_rules.specs.declared.settling.Settled.{Settled}
 use Rattle.selection_rules.specs.declared.settling.Settled.TheVariants.{Kept, Dropped, Faulty}
-
--- what a schema answers about types and fields
-pub record Meaning : Type 0 where
-  pub known : ℕ → Bool
-  pub sort : ℕ → Option TypeKind
-  pub field : ℕ → ℕ → Result FieldDefinition FieldLookupError
-
-abbrev pub meaning : (ℕ → Bool) → (ℕ → Option TypeKind) → (ℕ → ℕ → Result FieldDefinition FieldLookupError) → Meaning
-meaning known sort field = record { known = known; sort = sort; field = field }
 
 -- section 5.3.3: nothing is selected on a scalar or an enum
 abbrev pub on_kind : Option TypeKind → FieldDefinition → Settled

@@ -1,7 +1,7 @@
 -- Stored selections: a selection with the place of its definition and the type of the set beneath it.
 use Rattle.std.specs.Prelude.{ℕ, cond, refl}
 use Rattle.layout.specs.Shapes.{Shape}
-use Rattle.document.specs.Rows.{Selection, is_field, is_spread}
+use Rattle.document.specs.Rows.{Selection, selection_of, selection_row, is_field, is_spread}
 use Rattle.selection_rules.specs.declared.stored.StoredRow.{StoredRow}
 
 -- the forms of a selection: kind 1 is a field, 2 a spread, 3 an inline fragment
@@ -33,44 +33,18 @@ stored_in s place inner = stored s place (set_type_of (form_of s) inner)
 
 -- a stored selection as a row that ends at e
 abbrev pub stored_row : Stored → ℕ → StoredRow
-stored_row x e =
-    record {
-      kind = x.selection.kind;
-      name = x.selection.name;
-      alias = x.selection.alias;
-      condition = x.selection.condition;
-      arguments = x.selection.arguments;
-      directives = x.selection.directives;
-      location = x.selection.location;
-      name_location = x.selection.name_location;
-      condition_location = x.selection.condition_location;
-      end = e;
-      place = x.place;
-      set_type = x.set_type;
-    }
+stored_row x e = record { selection = selection_row x.selection e; place = x.place; set_type = x.set_type }
 
+-- what a stored row holds beside its end
 abbrev pub stored_of : StoredRow → Stored
-stored_of r =
-    stored
-    (record {
-      kind = r.kind;
-      name = r.name;
-      alias = r.alias;
-      condition = r.condition;
-      arguments = r.arguments;
-      directives = r.directives;
-      location = r.location;
-      name_location = r.name_location;
-      condition_location = r.condition_location;
-    })
-    r.place r.set_type
+stored_of r = stored (selection_of r.selection) r.place r.set_type
 
 abbrev pub stored_selections : Shape Stored StoredRow
 stored_selections =
     record {
       close = stored_row;
       bare = stored_of;
-      end = λ r. r.end;
+      end = λ r. r.selection.end;
       bare_close = λ a e. refl;
       end_close = λ a e. refl;
       close_bare = λ r. refl;

@@ -1,9 +1,9 @@
 // What becomes of one selection in the type around it: stored with a place and a set type, dropped, or an error.
 ghost use Rattle.std.specs.Prelude.{◌≡◌};
 ghost use Rattle.document.specs.Rows.{selection_of};
-ghost use Rattle.selection_rules.specs.Settle.{meaning, found_field, settled};
+ghost use Rattle.selection_rules.specs.Settle.{found_field, settled};
 
-use document::SelectionRow;
+use document::{SelectionKind, SelectionRow};
 use schema::{FieldDefinition, FieldLookupError, Schema, TypeKind};
 
 /// What is wrong with a selection.
@@ -23,7 +23,7 @@ pub enum SelectionFault {
 #[derive(Clone, Copy)]
 pub enum Settled {
     /// It is stored, with the place of its definition and the type of the set beneath it.
-    Kept(u32, u32),
+    Kept { place: u32, set_type: u32 },
     /// It is left out without an error: the type around it is not known.
     Dropped,
     /// It is left out with an error.
@@ -32,7 +32,7 @@ pub enum Settled {
 
 // What becomes of a field that was found.
 fn settle_found<S: Schema>(schema: &S, found: FieldDefinition, beneath: bool) -> Settled
-    ensures { result ≡ found_field (meaning (S.Schema.known schema.now) (S.Schema.sort schema.now) (S.Schema.field schema.now)) found beneath }
+    ensures { result ≡ found_field (S.Schema.meaning schema.now) found beneath }
 {
     if beneath {
         match schema.kind(found.inner) {
@@ -41,22 +41,34 @@ fn settle_found<S: Schema>(schema: &S, found: FieldDefinition, beneath: bool) ->
             _ => {}
         }
     }
-    Settled::Kept(found.place, found.inner)
+    Settled::Kept {
+        place: found.place,
+        set_type: found.inner,
+    }
 }
 
 /// What becomes of a selection in the type around it, which has selections beneath it or not.
 pub fn settle<S: Schema>(schema: &S, around: u32, row: &SelectionRow, beneath: bool) -> Settled
-    ensures { result ≡ settled (meaning (S.Schema.known schema.now) (S.Schema.sort schema.now) (S.Schema.field schema.now)) around (selection_of row.now) beneath }
+    ensures { result ≡ settled (S.Schema.meaning schema.now) around (selection_of row.now) beneath }
 {
-    match row.kind {
-        1 => match schema.type_field(around, row.name) {
+    match row.selection_kind() {
+        Some(SelectionKind::Field) => match schema.type_field(around, row.name) {
             Ok(found) => settle_found(schema, found, beneath),
             Err(FieldLookupError::NoSuchField) => Settled::Faulty(SelectionFault::UnknownField),
             Err(FieldLookupError::NoSuchType) => Settled::Dropped,
         },
-        2 => Settled::Kept(0, 0),
-        _ if row.condition == 0 => Settled::Kept(0, around),
-        _ if schema.knows(row.condition) => Settled::Kept(0, row.condition),
+        Some(SelectionKind::Spread) => Settled::Kept {
+            place: 0,
+            set_type: 0,
+        },
+        _ if row.condition == 0 => Settled::Kept {
+            place: 0,
+            set_type: around,
+        },
+        _ if schema.knows(row.condition) => Settled::Kept {
+            place: 0,
+            set_type: row.condition,
+        },
         _ => Settled::Faulty(SelectionFault::UnknownCondition),
     }
 }

@@ -1,7 +1,7 @@
 -- How kept definitions are laid out in tables: their rows one after the other, and for each its range of them.
 use Rattle.std.specs.Prelude.{ℕ, ◌+◌, Bool, cond, List, [], ◌∷◌, ◌++◌, Some, Option}
 use Rattle.layout.specs.Forest.{size, flatten}
-use Rattle.document.specs.Rows.{Head}
+use Rattle.document.specs.Rows.{Head, head_of, definition_row}
 use Rattle.selection_rules.specs.declared.stored.StoredRow.{StoredRow}
 use Rattle.selection_rules.specs.Stored.{stored_row}
 use Rattle.building_rules.specs.Definitions.{Kept, Role, role_of}
@@ -10,36 +10,14 @@ use Rattle.stored_tables.specs.declared.definition.StoredDefinition.{StoredDefin
 
 -- a definition's head with the range of its stored rows and the type around them
 abbrev pub stored_definition : Head → ℕ → ℕ → ℕ → StoredDefinition
-stored_definition h first end set_type =
-    record {
-      kind = h.kind;
-      operation_type = h.operation_type;
-      name = h.name;
-      condition = h.condition;
-      variables = h.variables;
-      directives = h.directives;
-      location = h.location;
-      name_location = h.name_location;
-      condition_location = h.condition_location;
-      first = first;
-      end = end;
-      set_type = set_type;
-    }
+stored_definition h first end set_type = record { row = definition_row h first end; set_type = set_type }
+
+abbrev pub name_of : StoredDefinition → ℕ
+name_of d = d.row.name
 
 -- the head of a stored definition
 abbrev pub stored_head : StoredDefinition → Head
-stored_head d =
-    record {
-      kind = d.kind;
-      operation_type = d.operation_type;
-      name = d.name;
-      condition = d.condition;
-      variables = d.variables;
-      directives = d.directives;
-      location = d.location;
-      name_location = d.name_location;
-      condition_location = d.condition_location;
-    }
+stored_head d = head_of d.row
 
 -- a kept definition whose stored rows begin at the place n
 abbrev pub laid_out : ℕ → Kept → StoredDefinition

@@ -2,4 +2,4 @@ use Rattle.building_rules.proofs.Joined.{no_errors_exactly_when_valid}
 use Rattle.building_rules.proofs.no_errors_exactly_when_valid.Goals as goal
 
 pub returns : goal.returns
-returns g c = no_errors_exactly_when_valid _ c.keeps_the_law.ensures
+returns g c = no_errors_exactly_when_valid _ (g.met.S.Schema.lawful c.args.schema.now)

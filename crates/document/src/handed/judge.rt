@@ -5,7 +5,7 @@ ghost use Rattle.refusal.specs.Firsts.{verdict_of};
 ghost use Rattle.document.specs.Verdict.{document_fault};
 
 use super::Document;
-use crate::check::document_fault;
+use crate::check::check_tables;
 use crate::fault::DocumentFault;
 
 impl Document<'_> {
@@ -15,9 +15,6 @@ impl Document<'_> {
         ensures verdict { result ≡ verdict_of (document_fault self.now.definitions.now self.now.rows.now) }
         ensures lawful { MatchResult result (λ _. ReadsAsOne self.now.definitions.now self.now.rows.now) (λ _. ReadsAsNone self.now.definitions.now self.now.rows.now) }
     {
-        match document_fault(self.definitions, self.rows) {
-            Some(fault) => Err(fault),
-            None => Ok(()),
-        }
+        check_tables(self.definitions, self.rows)
     }
 }

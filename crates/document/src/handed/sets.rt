@@ -3,10 +3,10 @@ ghost use Rattle.std.specs.Prelude.{◌≡◌, ℕ, ◌<◌, List, length, nat_l
 ghost use Rattle.layout.specs.Forest.{Forest};
 ghost use Rattle.document.specs.Rows.{Selection};
 ghost use Rattle.document.specs.Document.{Definition, IsDocument, no_definition};
-ghost use Rattle.document.specs.Sets.{next_of, set_for, Holds, Follows};
+ghost use Rattle.document.specs.Sets.{next_of, set_of, set_for, Holds, Follows};
 
 use super::Document;
-use crate::rows::SelectionRow;
+use crate::rows::{DefinitionRow, SelectionRow};
 
 /// The selections of a set that are still to come.
 #[derive(Clone, Copy)]
@@ -33,27 +33,16 @@ impl SelectionSet {
     }
 }
 
-// The next selection of a set.
-pub fn next_in<'a>(rows: &'a [SelectionRow], set: SelectionSet) -> Option<SelectionStep>
-    ensures { result ≡ next_of rows.now set }
-{
-    if set.next >= set.end || set.next >= rows.len() {
-        return None;
+impl DefinitionRow {
+    // The selections that stand directly in the definition.
+    pub(super) fn selections(&self) -> SelectionSet
+        ensures { result ≡ set_of self.now.first self.now.end }
+    {
+        SelectionSet {
+            next: self.first as usize,
+            end: self.end as usize,
+        }
     }
-    let row = rows[set.next];
-    let end = row.end as usize;
-    Some(SelectionStep {
-        place: set.next,
-        row,
-        beneath: SelectionSet {
-            next: set.next + 1,
-            end,
-        },
-        after: SelectionSet {
-            next: end,
-            end: set.end,
-        },
-    })
 }
 
 impl Document<'_> {
@@ -62,21 +51,31 @@ impl Document<'_> {
         ensures set { result ≡ set_for self.now.definitions.now definition }
         ensures forest { (document : List Definition) → IsDocument self.now.definitions.now self.now.rows.now document → Holds self.now.rows.now result (slice_index_or document definition no_definition).selected }
     {
-        if definition >= self.definitions.len() {
-            return SelectionSet { next: 0, end: 0 };
-        }
-        let row = self.definitions[definition];
-        SelectionSet {
-            next: row.first as usize,
-            end: row.end as usize,
+        match self.definitions.get(definition) {
+            Some(row) => row.selections(),
+            None => SelectionSet { next: 0, end: 0 },
         }
     }
 
     /// The next selection of a set, with what stands beneath it and the rest of the set.
+    // Kept, no iterator: on rows as they are handed an end may lead a set back to itself, so that it would not end.
     pub fn next_selection(&self, set: SelectionSet) -> Option<SelectionStep>
         ensures step { result ≡ next_of self.now.rows.now set }
         ensures forest { (f : Forest Selection) → Holds self.now.rows.now set f → Follows self.now.rows.now set f result }
     {
-        next_in(self.rows, set)
+        if set.is_empty() {
+            return None;
+        }
+        let row = self.rows.get(set.next)?;
+        let end = row.end as usize;
+        Some(SelectionStep {
+            place: set.next,
+            row: *row,
+            beneath: SelectionSet {
+                next: set.next + 1,
+                end,
+            },
+            after: SelectionSet { next: end, ..set },
+        })
     }
 }

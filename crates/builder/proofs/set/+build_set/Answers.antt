@@ -3,7 +3,7 @@ use Rattle.std.proofs.Common.{◌≡◌, ℕ, Bool, not, [], ◌∷◌, length, 
 use Rattle.std.proofs.lemmas.List.{length-take-le}
 use Rattle.layout.specs.Forest.{none}
 use Rattle.document.specs.Rows.{Selection, selection_of}
-use Rattle.schema.specs.Meaning.{Meaning, meaning}
+use Rattle.schema.specs.Meaning.{Meaning}
 use Rattle.selection_rules.specs.declared.settling.Settled.{Settled}
 use Rattle.selection_rules.specs.Sets.{settled_in}
 use Rattle.selection_rules.specs.declared.stored.StoredRow.{StoredRow}
@@ -47,7 +47,7 @@ loop-step-preserved g t c =
     let o = output c.loop-step.rows c.loop-step.errors c.loop-step.path_keys c.loop-step.done in
     let step = c.in-Some.step in
     let s : Selection = selection_of step.row in
-    let m : Meaning = meaning (g.S.Schema.root c.args.schema.now) (g.S.Schema.known c.args.schema.now) (g.S.Schema.sort c.args.schema.now) (g.S.Schema.field c.args.schema.now) in
+    let m : Meaning = g.S.Schema.meaning c.args.schema.now in
     let tr = turn _ _ _ _ _ _ _ c.loop-step.rest o w step c.in-Some.ensures.step in
     let empty = some_beneath _ step.beneath tr.below tr.beneath in
     let even : length (path_of c.args.path).keys ≡ c.args.path.depth = length-take-le c.args.path.depth c.args.path.keys (omega (arith, tr.shallow)) in

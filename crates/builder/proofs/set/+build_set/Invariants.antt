@@ -1,6 +1,5 @@
 -- What is left of the set gives what was to be built; the rows to come grow fewer.
 use Rattle.std.proofs.Common.{◌-◌}
-use Rattle.schema.specs.Meaning.{meaning}
 use Rattle.builder.specs.Filling.{path_of, output}
 use Rattle.builder.proofs.Left.{Left}
 use Rattle.builder.proofs.set.+build_set.Given as goal
@@ -10,7 +9,7 @@ decreases-build_set g l = l.set.end - l.set.next
 
 abbrev pub invariant-loop-step : goal.invariant-loop-step
 invariant-loop-step g l =
-    Left (meaning (g.S.Schema.root l.schema) (g.S.Schema.known l.schema) (g.S.Schema.sort l.schema) (g.S.Schema.field l.schema)) l.document.rows.now l.initial.rest l.around l.path.depth (path_of l.path)
+    Left (g.S.Schema.meaning l.schema) l.document.rows.now l.initial.rest l.around l.path.depth (path_of l.path)
     (output l.initial.rows l.initial.errors l.initial.path_keys l.initial.done) l.rest (output l.rows l.errors l.path_keys l.done)
 
 abbrev pub decreases-loop-step : goal.decreases-loop-step

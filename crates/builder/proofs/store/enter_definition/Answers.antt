@@ -6,5 +6,5 @@ use Rattle.builder.proofs.store.enter_definition.Goals as goal
 pub returns-in_default : goal.returns-in_default
 returns-in_default c =
     let e = c.insert.ensures in
-    let is = added (table c.args.entries.now c.args.slots.now c.args.count) c.args.definition.name c.requires.fits c.requires.room c.requires.free _ c.insert.result e.answer (e.located c.requires.sound) (e.full c.requires.sound) in
+    let is = added (table c.args.entries.now c.args.slots.now c.args.count) c.args.definition.row.name c.requires.fits c.requires.room c.requires.free _ c.insert.result e.answer (e.located c.requires.sound) (e.full c.requires.sound) in
     absurd (c.in_default.not-Added c.args.count is)

@@ -1,29 +1,18 @@
-use Rattle.std.proofs.Common.{◌≡◌, length, get_or, sym, subst}
-use Rattle.std.proofs.lemmas.Bool.{cond-true, cond-false, le-leb, lt-leb}
+use Rattle.std.proofs.Common.{◌≡◌, ◌<◌, length, get_or, rules, subst}
 use Rattle.document.specs.declared.handed.sets.SelectionSet.{SelectionSet}
 use Rattle.document.specs.Document.{no_definition}
-use Rattle.document.specs.Sets.{set_of, set_for, no_definition_row, Holds}
-use Rattle.document.proofs.Sets.{set_holds}
+use Rattle.document.specs.Sets.{set_of, no_definition_row, Holds}
+use Rattle.document.proofs.Sets.{row_holds, past_holds}
 use Rattle.document.proofs.handed.Document.selections.Goals as goal
 
-pub returns-then-definition-self : goal.returns-then-definition-self
-returns-then-definition-self c =
+pub returns-in-Some-clause-forest : goal.returns-in-Some-clause-forest
+returns-in-Some-clause-forest c =
     let ds = c.args.self.now.definitions.now in
     let rows = c.args.self.now.rows.now in
     let k = c.args.definition in
-    let same : set_of 0 0 ≡ set_for ds k = sym (cond-true _ _ _ (le-leb (length ds) k c.if-definition-self.true)) in
-    record {
-      set = same;
-      forest = λ document is. subst (λ (set : SelectionSet). Holds rows set (get_or document k no_definition).selected) (sym same) (set_holds rows ds document k is);
-    }
+    let low : k < length ds = search rules in
+    let same : set_of (get_or ds k no_definition_row).first (get_or ds k no_definition_row).end ≡ c.selections.result = search rules in
+    λ document is. subst (λ (set : SelectionSet). Holds rows set (get_or document k no_definition).selected) same (row_holds rows ds document k is low)
 
-pub returns : goal.returns
-returns c =
-    let ds = c.args.self.now.definitions.now in
-    let rows = c.args.self.now.rows.now in
-    let k = c.args.definition in
-    let same : set_of (get_or ds k no_definition_row).first (get_or ds k no_definition_row).end ≡ set_for ds k = sym (cond-false _ _ _ (lt-leb (length ds) k c.if-definition-self.false)) in
-    record {
-      set = same;
-      forest = λ document is. subst (λ (set : SelectionSet). Holds rows set (get_or document k no_definition).selected) (sym same) (set_holds rows ds document k is);
-    }
+pub returns-in-None-clause-forest : goal.returns-in-None-clause-forest
+returns-in-None-clause-forest c = λ document is. past_holds c.args.self.now.rows.now c.args.self.now.definitions.now document c.args.definition is (search rules)

@@ -1,7 +1,0 @@
-use Rattle.std.proofs.Common.{◌≡◌, drop}
-use Rattle.document.specs.Verdict.{definitions_fault}
-use Rattle.document.proofs.check.fault_in_definitions.Given as goal
-
--- the definitions to come have the first fault of all
-abbrev pub invariant-loop-i : goal.invariant-loop-i
-invariant-loop-i l = definitions_fault l.rows l.start l.i (drop l.i l.definitions) ≡ definitions_fault l.rows 0 0 l.definitions
