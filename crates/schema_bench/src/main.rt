@@ -97,59 +97,27 @@ fn pairs_with(heap: Global, first_type: u16, field: Name) -> Result<Vec<Pair>, A
     Ok(pairs)
 }
 
-// What is asked of the schema for each pair.
-#[derive(Clone, Copy)]
-enum Asked {
-    Field,
-    Kind,
-    Root,
+// What the answer for a field adds to the sum.
+fn field_worth(schema: &MetaLayer<TableSchema>, (type_name, field_name): Pair) -> u32 {
+    match schema.type_field(type_name, field_name) {
+        Ok(definition) => definition.place,
+        Err(FieldLookupError::NoSuchField) => 5000,
+        Err(FieldLookupError::NoSuchType) => 6000,
+    }
 }
 
-fn field_round(schema: &MetaLayer<TableSchema>, pairs: &[Pair], start: u64) -> u64 {
-    let mut sum = start;
-    for (type_name, field_name) in pairs {
-        let worth = match schema.type_field(*type_name, *field_name) {
-            Ok(definition) => definition.place,
-            Err(FieldLookupError::NoSuchField) => 5000,
-            Err(FieldLookupError::NoSuchType) => 6000,
-        };
-        sum = sum.wrapping_add(u64::from(worth));
+// What the answer for the kind of a type adds.
+fn kind_worth(schema: &MetaLayer<TableSchema>, (type_name, _): Pair) -> u32 {
+    match schema.kind(type_name) {
+        Some(kind) => kind.number(),
+        None => 0,
     }
-    sum
 }
 
-fn kind_round(schema: &MetaLayer<TableSchema>, pairs: &[Pair], start: u64) -> u64 {
-    let mut sum = start;
-    for (type_name, _) in pairs {
-        let worth = match schema.kind(*type_name) {
-            Some(kind) => kind.number(),
-            None => 0,
-        };
-        sum = sum.wrapping_add(u64::from(worth));
-    }
-    sum
-}
-
-fn root_round(schema: &MetaLayer<TableSchema>, pairs: &[Pair], start: u64) -> u64 {
-    let mut sum = start;
-    for (type_name, _) in pairs {
-        let operation = match type_name % 3 {
-            0 => OperationType::Query,
-            1 => OperationType::Mutation,
-            _ => OperationType::Subscription,
-        };
-        let root = schema.root_operation(operation).unwrap_or(0);
-        sum = sum.wrapping_add(u64::from(root ^ *type_name));
-    }
-    sum
-}
-
-fn round(schema: &MetaLayer<TableSchema>, asked: Asked, pairs: &[Pair], start: u64) -> u64 {
-    match asked {
-        Asked::Field => field_round(schema, pairs, start),
-        Asked::Kind => kind_round(schema, pairs, start),
-        Asked::Root => root_round(schema, pairs, start),
-    }
+// What the answer for the root of some operation type adds.
+fn root_worth(schema: &MetaLayer<TableSchema>, (type_name, _): Pair) -> u32 {
+    let operation = OperationType::try_from(type_name % 3).unwrap_or(OperationType::Subscription);
+    schema.root_operation(operation).unwrap_or(0) ^ type_name
 }
 
 // Writes how long each of so many lookups took, in tenths of a nanosecond.
@@ -160,18 +128,21 @@ fn report(rt: &HostRuntime, what: &str, spent: Duration, lookups: u64) -> io::Re
     eprintln!(rt; "{what}: {whole}.{rest} ns a lookup ({lookups} lookups)")
 }
 
-// Asks for every pair, round after round; the sum of the answers.
-fn measure(
+// Asks for every pair, round after round; the sum of what the answers are worth.
+fn measure<F: Fn(Pair) -> u32>(
     rt: &HostRuntime,
-    schema: &MetaLayer<TableSchema>,
     what: &str,
-    asked: Asked,
     pairs: &[Pair],
-) -> io::Result<u64> {
+    worth: F,
+) -> io::Result<u64>
+    requires { F.IsAlwaysCallable worth }
+{
     let start = Instant::now(rt)?;
-    let mut sum = 0;
+    let mut sum = 0u64;
     for _ in 0..ROUNDS {
-        sum = round(schema, asked, pairs, sum);
+        for pair in pairs {
+            sum = sum.wrapping_add(u64::from(worth(*pair)));
+        }
     }
     let lookups = u64::from(ROUNDS).wrapping_mul(pairs.len() as u64);
     report(rt, what, start.elapsed(rt)?, lookups)?;
@@ -183,47 +154,41 @@ fn measure_hits(
     schema: &MetaLayer<TableSchema>,
     fields: &[FieldRow],
 ) -> anyhow::Result<()> {
+    let ask = |pair: Pair| field_worth(schema, pair);
     let pairs = field_pairs(rt.alloc(), fields, 1)?;
-    let hits = measure(
-        rt,
-        schema,
-        "field of a type",
-        Asked::Field,
-        pairs.as_slice(),
-    )?;
+    let hits = measure(rt, "field of a type", pairs.as_slice(), ask)?;
     let pairs = field_pairs(rt.alloc(), fields, 1597)?;
-    let mixed = measure(
-        rt,
-        schema,
-        "field of a type, in mixed order",
-        Asked::Field,
-        pairs.as_slice(),
-    )?;
+    let mixed = measure(rt, "field of a type, in mixed order", pairs.as_slice(), ask)?;
     let pairs = pairs_with(rt.alloc(), 12, names::TYPENAME_FIELD)?;
-    let typename = measure(
-        rt,
-        schema,
-        "__typename of a type",
-        Asked::Field,
-        pairs.as_slice(),
-    )?;
+    let typename = measure(rt, "__typename of a type", pairs.as_slice(), ask)?;
     println!(rt; "fields {hits}, in mixed order {mixed}, __typename {typename}")?;
     Ok(())
 }
 
 fn measure_misses(rt: &HostRuntime, schema: &MetaLayer<TableSchema>) -> anyhow::Result<()> {
+    let ask = |pair: Pair| field_worth(schema, pair);
     let pairs = pairs_with(rt.alloc(), 12, NO_FIELD)?;
-    let no_field = measure(rt, schema, "no such field", Asked::Field, pairs.as_slice())?;
+    let no_field = measure(rt, "no such field", pairs.as_slice(), ask)?;
     let pairs = pairs_with(rt.alloc(), 4000, NO_FIELD)?;
-    let no_type = measure(rt, schema, "no such type", Asked::Field, pairs.as_slice())?;
+    let no_type = measure(rt, "no such type", pairs.as_slice(), ask)?;
     println!(rt; "no such field {no_field}, no such type {no_type}")?;
     Ok(())
 }
 
 fn measure_others(rt: &HostRuntime, schema: &MetaLayer<TableSchema>) -> anyhow::Result<()> {
     let pairs = pairs_with(rt.alloc(), 12, NO_FIELD)?;
-    let kinds = measure(rt, schema, "kind of a type", Asked::Kind, pairs.as_slice())?;
-    let roots = measure(rt, schema, "root operation", Asked::Root, pairs.as_slice())?;
+    let kinds = measure(
+        rt,
+        "kind of a type",
+        pairs.as_slice(),
+        |pair| kind_worth(schema, pair),
+    )?;
+    let roots = measure(
+        rt,
+        "root operation",
+        pairs.as_slice(),
+        |pair| root_worth(schema, pair),
+    )?;
     println!(rt; "kinds {kinds}, roots {roots}")?;
     Ok(())
 }

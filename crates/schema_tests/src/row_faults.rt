@@ -24,12 +24,11 @@ fn told(number: u32, row: u32) -> Option<Told> {
 }
 
 fn each(rt: &impl Abort, heap: Global, cases: &[Case]) -> Result<(), Fail> {
-    for i in 0..cases.len() {
-        let (types, fields, (number, row)) = cases[i];
+    for (types, fields, (number, row)) in cases {
         let types = type_rows(heap, types)?;
         let fields = field_rows(heap, fields)?;
         let rows = rootless(types.as_slice(), fields.as_slice());
-        come_to(rt, heap, &rows, told(number, row))?;
+        come_to(rt, heap, &rows, told(*number, *row))?;
     }
     Ok(())
 }
