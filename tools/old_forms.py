@@ -22,13 +22,15 @@ def files(commit):
 # What is looked for in a line of code, by point; comments and clauses are left out.
 LINES = {
     "1 an Option that tells what is wrong": r"-> Option<\w*(Fault|Misfit|Refusal)\b",
-    "1 a kind or a refusal as a number": r"match \w+(\.\w+)*\.kind\b|\.kind [!=]= \d|^\s+\d+( \| \d+| ?\.\.=? ?\d+)* (if \w+ )?=> |\(\d+, 0\)|pub number: u32|RowFault::\w+ => \d|number: \d+,",
+    "1 a kind or a refusal as a number": r"match \w+(\.\w+)*\.kind \{|\.kind [!=]= \d|^\s+\d+( \| \d+| ?\.\.=? ?\d+)* (if \w+ )?=> (?!Ok\()|=> \(\d+, 0\)|pub number: u32|RowFault::\w+ => \d|\bnumber: \d+,",
     "1 a flag with values beside it": r"^\s+pub is_\w+: bool",
-    "3 a loop that counts by hand": r"for \w+ in \d+\.\.|\bwhile \w|for _ in \d+\.\.|= \w+\.saturating_add\(1\);|^\s+\w+ \+= 1;",
-    "4 a comparison, copy, conversion or printing by hand": r"fn (equals|from_number|of_word|refusal|show_\w+|word|fault_of_\w+|rows_of\w*|row_fault_number)\b|impl.* Clone for|^\s+(?P<m>\w+): \w+\.(?P=m),|^\s+\w+: n\[\d+\],",
+    "3 a loop that counts by hand": r"for \w+ in \d+\.\.|\bwhile \w|= \w+\.saturating_add\(1\);|^\s+\w+ \+= 1;",
+    "4 a comparison, conversion or printing by hand": r"fn (equals|from_number|of_word|refusal|show_\w+|fault_of_\w+|rows_of\w*|row_fault_number)\b|fn word\(self\)|impl.* Clone for",
     "6 a buffer with a length beside it": r"\bcount: usize|\bdepth: usize|keys: \[u32; 32\]|filled: Filled",
     "7 a switch on which step to run": r"\b(Asked|Shape)::\w+ =>|\bAsked::\w+,?$",
 }
+# Members copied one by one from another value, three or more in a row.
+COPIED = re.compile(r"(?:^\s+(\w+): (?:\w+\.\1|n\[\d+\]),\n){3,}", re.M)
 
 def code(text):
     for number, line in enumerate(text.split("\n"), 1):
@@ -70,6 +72,8 @@ def main():
             for point, pattern in LINES.items():
                 if re.search(pattern, line):
                     found[point].append(f"{name}:{number}: {line.strip()[:90]}")
+        for m in COPIED.finditer(text):
+            found["4 members copied one by one"].append(f"{name}:{text.count(chr(10), 0, m.start()) + 1}: {m.group(0).split(chr(10))[0].strip()} ..")
         for fn, at, parameters, facts, body in functions(text):
             for fact in facts:
                 fact = re.sub(r"\b(%s)\b(\.(now|old|new)\b)?" % "|".join(parameters), "_", fact)

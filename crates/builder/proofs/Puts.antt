@@ -47,10 +47,6 @@ get_row xs n y d below h =
     in
     rw one (get_or_at (take n xs) y _ d n (length-take-le n xs (omega arith)))
 
--- one element, and then more after it
-pub put_one : {X : Type 0} (xs : List X) (n : ℕ) (y : X) (after : List X) → n < length xs → put (set xs n y) (suc n) after ≡ put xs n (y ∷ after)
-put_one xs n y after h = rw (set-put xs n y h) (put-put xs n (y ∷ []) after (suc n) (omega arith) h)
-
 -- a part that is written over
 pub put_mid-put : {X : Type 0} (a k : ℕ) (xs ys : List X) → k ≡ length ys → put_mid a k xs ys ≡ put xs a ys
 put_mid-put a k xs ys e = ap (λ (l : List _). take a xs ++ (ys ++ l)) (drop-drop k a xs ∙ ap (λ (n : ℕ). drop (a + n) xs) e)

@@ -4,7 +4,7 @@ use Rattle.std.proofs.lemmas.Bool.{eqb-true, eq-eqb, ne_eqb, cond-true, cond-fal
 use Rattle.document.specs.declared.kinds.DefinitionKind.TheVariants.{Operation, Fragment, TypeSystem}
 use Rattle.document.specs.Kinds.{definition_kind}
 use Rattle.document.specs.Rows.{Head}
-use Rattle.building_rules.specs.Definitions.{anonymous_operation, named_operation, fragment, type_system, role_of}
+use Rattle.building_rules.specs.Definitions.{anonymous_operation, named_operation, fragment, role_of}
 
 module _ (h : Head) where
   pub operation_role : h.kind ≡ 1 → role_of h ≡ cond (eqb h.name 0) anonymous_operation named_operation
@@ -18,9 +18,6 @@ module _ (h : Head) where
 
   pub fragment_role : h.kind ≡ 2 → role_of h ≡ fragment
   fragment_role kind = cond-false _ _ _ (ne_eqb h.kind 1 (λ e. omega arith)) ∙ cond-true _ _ _ (eq-eqb h.kind 2 kind)
-
-  pub system_role : (h.kind ≡ 1 → ⊥) → (h.kind ≡ 2 → ⊥) → role_of h ≡ type_system
-  system_role one two = cond-false _ _ _ (ne_eqb h.kind 1 one) ∙ cond-false _ _ _ (ne_eqb h.kind 2 two)
 
 -- what the number of a row is, by its kind
 

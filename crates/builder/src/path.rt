@@ -10,6 +10,7 @@ use document::{SelectionKind, SelectionRow};
 use selection_rules::{ExecutableDefinitionName, SelectionPath};
 
 /// An open path: as many of the keys are in use as fields are open.
+// Kept: an array with a depth beside it, since a builder has no heap, and a path is copied at each selection.
 #[derive(Clone, Copy)]
 pub struct OpenPath {
     root: ExecutableDefinitionName,

@@ -85,6 +85,7 @@ fn enter_definition(
 }
 
 // Keeps a definition: the anonymous operation beside the tables, every other one in its table.
+// Kept: the lent tables side by side, as in building a set.
 fn keep_definition(
     definition: StoredDefinition,
     progress: Progress,
