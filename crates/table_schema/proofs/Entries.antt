@@ -5,7 +5,7 @@ use Rattle.std.proofs.lemmas.Option.{slice_get-get_or}
 use Rattle.std.proofs.lemmas.List.{take_more, length-take-le, length-replicate}
 use Rattle.table_schema.specs.declared.rows.FieldRow.{FieldRow}
 use Rattle.std.proofs.lemmas.Bool.{false≢true, and_from, eq-eqb}
-use Rattle.ordered_index.specs.Firsts.{first_place}
+use Rattle.std.specs.List.{position_from}
 use Rattle.ordered_index.specs.Keys.{same_field}
 use Rattle.schema.specs.declared.answers.FieldLookupError.TheVariants.{NoSuchType}
 use Rattle.schema.specs.Meta.{defined}
@@ -53,11 +53,11 @@ entries_length k [] = refl
 entries_length k (row ∷ rows) = ap suc (entries_length (k + 1) rows)
 
 -- the first entry of a field stands where its first row stands
-entries_first : (k j t f : ℕ) (rows : List FieldRow) → first_place (λ e. same_field (entry_key e) (field_key t f)) (entries_from k rows) j ≡ first_place (owns t f) rows j
+entries_first : (k j t f : ℕ) (rows : List FieldRow) → position_from (λ e. same_field (entry_key e) (field_key t f)) j (entries_from k rows) ≡ position_from (owns t f) j rows
 entries_first k j t f [] = refl
 entries_first k j t f (row ∷ rows) = ap (λ rest. cond (owns t f row) (Some j) rest) (entries_first (k + 1) (j + 1) t f rows)
 
-told_same : (rows : List FieldRow) (t f : ℕ) (at : Option ℕ) → first_place (owns t f) rows 0 ≡ at
+told_same : (rows : List FieldRow) (t f : ℕ) (at : Option ℕ) → position_from (owns t f) 0 rows ≡ at
     → entry_told (first_with entry_key same_field (field_key t f) (entries_from 0 rows)) ≡ field_there rows at
 told_same rows t f None is =
     ap entry_told (with_none entry_key same_field (field_key t f) (entries_from 0 rows) (entries_first 0 0 t f rows ∙ is))
@@ -69,7 +69,7 @@ told_same rows t f (Some i) is =
 -- what the entries answer is what the rows mean
 pub kept_means : (types : List TypeRow) (rows : List FieldRow) → kept_field types (entries_from 0 rows) ≡ field_of types rows
 kept_means types rows =
-    λ i t f. cond (known_type types t) (told_same rows t f (first_place (owns t f) rows 0) refl i) (Err NoSuchType)
+    λ i t f. cond (known_type types t) (told_same rows t f (position_from (owns t f) 0 rows) refl i) (Err NoSuchType)
 
 last_none : (a b c : Bool) → cond a (Some NameMissing) (cond b (Some Repeated) (cond c None (Some OwnerUnfit))) ≡ None → c ≡ true
 last_none true b c is = let z : ◌≡◌ {A = ℕ} 0 1 = cc in absurd (omega arith)
@@ -91,7 +91,7 @@ owners_known types rows none i low =
     ap (option_and_then (field_fault types (take i rows))) (sym here) ∙ ap (fault_at (field_fault types) rows) (omega arith)
     ∙ no_fault InFields (fault_at (field_fault types) rows) 0 (length rows) (or_else_none (types_fault types) (fields_fault types rows) none).1 i inside in
     let owner : (get_or (entries_from 0 rows) i no_entry).key.owner ≡ row.owner = ap (λ e. e.key.owner) (entry_at 0 rows i inside) in
-    ap (known_type types) owner ∙ kind_known types (first_place (named row.owner) types 0) (last_none (eqb row.owner 0 || (eqb row.name 0 || eqb row.inner 0)) (is_some (first_place (owns row.owner row.name) (take i rows) 0)) (owns_fields (kind_of types row.owner)) fine)
+    ap (known_type types) owner ∙ kind_known types (position_from (named row.owner) 0 types) (last_none (eqb row.owner 0 || (eqb row.name 0 || eqb row.inner 0)) (is_some (position_from (owns row.owner row.name) 0 (take i rows))) (owns_fields (kind_of types row.owner)) fine)
 
 accepted : (over fit : Bool) (rows : Option SchemaFault) → Ok tt ≡ verdict_of (cond over (Some OverLimit) (cond fit rows (Some SlotsUnfit))) → (over ≡ false) × (rows ≡ None)
 accepted true fit rows is = let z : ◌≡◌ {A = ℕ} 0 1 = cc in absurd (omega arith)

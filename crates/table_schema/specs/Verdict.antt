@@ -1,7 +1,7 @@
 -- Which rows are no schema: each row's own fault, and the first of all.
-use Rattle.std.specs.Prelude.{ℕ, Bool, true, false, cond, ◌&&◌, ◌||◌, List, [], ◌∷◌, length, take, is_some, Some, None, Option, ◌==◌, nat_lt, slice_get}
+use Rattle.std.specs.Prelude.{ℕ, Bool, true, false, cond, ◌&&◌, ◌||◌, List, length, take, is_some, Some, None, Option, ◌==◌, nat_lt, slice_get}
 use Rattle.std.specs.Option.{option_and_then}
-use Rattle.ordered_index.specs.Firsts.{first_place}
+use Rattle.std.specs.List.{list_all, position_from}
 use Rattle.refusal.specs.Firsts.{first_fault, or_else}
 use Rattle.schema.specs.declared.answers.TypeKind.{TypeKind}
 use Rattle.schema.specs.declared.answers.TypeKind.TheVariants.{Scalar, Object, Interface, Union, Enum, InputObject}
@@ -44,7 +44,7 @@ owns_fields (Some InputObject) = false
 abbrev pub field_fault : List TypeRow → List FieldRow → FieldRow → Option RowFault
 field_fault types before row =
     cond (row.owner == 0 || (row.name == 0 || row.inner == 0)) (Some NameMissing)
-    (cond (is_some (first_place (owns row.owner row.name) before 0)) (Some Repeated)
+    (cond (is_some (position_from (owns row.owner row.name) 0 before)) (Some Repeated)
     (cond (owns_fields (kind_of types row.owner)) None (Some OwnerUnfit)))
 
 -- the fault of the row at place i of a table, as it stands after the rows before it
@@ -63,8 +63,7 @@ rows_fault types fields = or_else (types_fault types) (fields_fault types fields
 
 -- whether slots are an empty index of this size
 abbrev pub zeros : List ℕ → Bool
-zeros [] = true
-zeros (s ∷ slots) = s == 0 && zeros slots
+zeros slots = list_all (λ s. s == 0) slots
 
 abbrev pub empty_index : ℕ → List ℕ → Bool
 empty_index size slots = length slots == size && zeros slots
