@@ -1,9 +1,12 @@
--- The entries of rows: one more, where one is found, and what it answers.
-use Rattle.std.proofs.Common.{◌≡◌, ℕ, zero, suc, ◌+◌, ◌<◌, Bool, true, false, cond, ◌&&◌, ◌||◌, eqb, List, [], ◌∷◌, ◌++◌, map, length, replicate, get_or, take, is_some, Some, None, Ok, Err, Option, slice_get, sym, refl, ap, ◌∙◌, arith}
+-- The entries of rows: where one is found, and what it answers.
+use Rattle.std.proofs.Common.{◌≡◌, ℕ, zero, suc, ◌+◌, ◌<◌, Bool, true, false, cond, ◌&&◌, ◌||◌, eqb, List, [], ◌∷◌, map, length, replicate, get_or, take, is_some, Some, None, Ok, Err, Option, slice_get, sym, refl, ap, ◌∙◌, arith}
 use Rattle.std.specs.Option.{option_and_then}
 use Rattle.std.proofs.lemmas.Option.{slice_get-get_or}
-use Rattle.std.proofs.lemmas.List.{take_more, length-take-le, length-replicate}
+use Rattle.std.specs.List.{enumerate_from}
+use Rattle.std.proofs.lemmas.List.{length-replicate, length-map, get_or-map}
+use Rattle.std.proofs.lemmas.List.FromFn.{length-enumerate_from, get_or-enumerate_from}
 use Rattle.table_schema.specs.declared.rows.FieldRow.{FieldRow}
+use Rattle.table_schema.specs.declared.rows.FieldEntry.{FieldEntry}
 use Rattle.std.proofs.lemmas.Bool.{false≢true, and_from, eq-eqb}
 use Rattle.std.specs.List.{position_from}
 use Rattle.ordered_index.specs.Keys.{same_field}
@@ -23,19 +26,6 @@ use Rattle.table_schema.specs.Kept.{no_entry, entry_told, kept_field, entry_of, 
 use Rattle.refusal.proofs.Firsts.{no_fault, or_else_none}
 use Rattle.table_schema.proofs.Founds.{first_at, with_none, with_some}
 
-entries_push : (k : ℕ) (rows : List FieldRow) (row : FieldRow) → entries_from k (rows ++ row ∷ []) ≡ entries_from k rows ++ entry_of (k + length rows + 1) row ∷ []
-entries_push k [] row = ap (λ n. entry_of n row ∷ []) (omega arith)
-entries_push k (r ∷ rows) row =
-    ap (λ es. entry_of (k + 1) r ∷ es) (entries_push (k + 1) rows row ∙ ap (λ n. entries_from (k + 1) rows ++ entry_of n row ∷ []) (omega arith))
-
--- one row more
-pub entries_more : (rows : List FieldRow) (i : ℕ) → i < length rows
-    → entries_from 0 (take (i + 1) rows) ≡ entries_from 0 (take i rows) ++ entry_of (i + 1) (get_or rows i no_field) ∷ []
-entries_more rows i low =
-    ap (entries_from 0) (take_more rows i no_field low)
-    ∙ entries_push 0 (take i rows) (get_or rows i no_field)
-    ∙ ap (λ n. entries_from 0 (take i rows) ++ entry_of n (get_or rows i no_field) ∷ []) (let long = length-take-le i rows (omega arith) in omega arith)
-
 -- the keys are those of the rows
 pub entry_keys : (k : ℕ) (rows : List FieldRow) → map entry_key (entries_from k rows) ≡ map row_key rows
 entry_keys k [] = refl
@@ -43,14 +33,13 @@ entry_keys k (row ∷ rows) = ap (λ keys. row_key row ∷ keys) (entry_keys (k 
 
 -- the entry at a place is that of the row there
 pub entry_at : (k : ℕ) (rows : List FieldRow) (i : ℕ) → i < length rows → get_or (entries_from k rows) i no_entry ≡ entry_of (k + i + 1) (get_or rows i no_field)
-entry_at k [] i low = absurd (omega arith)
-entry_at k (row ∷ rows) zero low = ap (λ n. entry_of n row) (omega arith)
-entry_at k (row ∷ rows) (suc i) low =
-    entry_at (k + 1) rows i (omega arith) ∙ ap (λ n. entry_of n (get_or rows i no_field)) (omega arith)
+entry_at k rows i low =
+    let entry : ℕ × FieldRow → FieldEntry = λ numbered. entry_of (numbered.0 + 1) numbered.1 in
+    get_or-map entry (enumerate_from k rows) i (0, no_field) no_entry (omega (arith, length-enumerate_from k rows))
+    ∙ ap entry (get_or-enumerate_from k rows i (0, no_field) low)
 
 entries_length : (k : ℕ) (rows : List FieldRow) → length (entries_from k rows) ≡ length rows
-entries_length k [] = refl
-entries_length k (row ∷ rows) = ap suc (entries_length (k + 1) rows)
+entries_length k rows = length-map (enumerate_from k rows) (λ numbered. entry_of (numbered.0 + 1) numbered.1) ∙ length-enumerate_from k rows
 
 -- the first entry of a field stands where its first row stands
 entries_first : (k j t f : ℕ) (rows : List FieldRow) → position_from (λ e. same_field (entry_key e) (field_key t f)) j (entries_from k rows) ≡ position_from (owns t f) j rows
