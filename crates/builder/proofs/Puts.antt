@@ -1,6 +1,5 @@
 -- Laws of `put`, a list written over another.
 use Rattle.std.proofs.Common.{◌≡◌, ℕ, suc, ◌+◌, ◌<◌, ◌≤◌, List, [], ◌∷◌, ◌++◌, length, get_or, take, drop, set, sym, ap, ◌∙◌, append_assoc, add-zero, add-one, arith, length-append, length-drop, take-append-drop, length-take}
-use borrow.Rule.Slice.PartMut.{put_mid}
 use Rattle.std.proofs.lemmas.List.{take_at, drop_at, drop-drop, set_split, set_at, length-take-le, get_or_at}
 use Rattle.builder.specs.Filling.{put}
 
@@ -46,7 +45,3 @@ get_row xs n y d below h =
     rw (set-put xs n y h) (put-put xs n (y ∷ []) below (suc n) (omega arith) h)
     in
     rw one (get_or_at (take n xs) y _ d n (length-take-le n xs (omega arith)))
-
--- a part that is written over
-pub put_mid-put : {X : Type 0} (a k : ℕ) (xs ys : List X) → k ≡ length ys → put_mid a k xs ys ≡ put xs a ys
-put_mid-put a k xs ys e = ap (λ (l : List _). take a xs ++ (ys ++ l)) (drop-drop k a xs ∙ ap (λ (n : ℕ). drop (a + n) xs) e)

@@ -4,12 +4,12 @@ use Rattle.document.specs.Rows.{Head}
 use Rattle.schema.specs.Meaning.{Meaning}
 use Rattle.selection_rules.specs.declared.error.BuildError.TheVariants.{AmbiguousAnonymousOperation}
 use Rattle.selection_rules.specs.Errors.{error_rows}
-use Rattle.building_rules.specs.Definitions.{Role, anonymous_operation, named_operation, fragment, role_of, operation_of, Taken, taken_at, State, beside}
+use Rattle.building_rules.specs.Definitions.{Role, anonymous_operation, named_operation, role_of, operation_of, Taken, taken_at, State, beside}
 use Rattle.stored_tables.specs.declared.definition.StoredDefinition.{StoredDefinition}
 use Rattle.builder.specs.declared.ruling.Ruling.{Ruling}
 use Rattle.builder.specs.Holding.{taken_by}
-use Rattle.builder.proofs.Roles.{operation_role, fragment_role}
-use Rattle.builder.specs.Ruling.{operations_stored, arriving_name, root_errors, anonymous_errors, name_errors, fragment_errors, own_errors_as, named_root, fragment_type, set_type_as, now_multiple, root_ruling, operation_ruling, fragment_ruling, maybe, told, Ruled}
+use Rattle.builder.proofs.Roles.{operation_role}
+use Rattle.builder.specs.Ruling.{operations_stored, arriving_name, root_errors, anonymous_errors, name_errors, own_errors_as, named_root, set_type_as, now_multiple, root_ruling, operation_ruling, maybe, told, Ruled}
 
 -- a ruling says what the rules say of a definition of this role
 record Says (m : Meaning) (s : State) (h : Head) (strict : Bool) (role : Role) (r : Ruling) : Type 0 where
@@ -90,30 +90,3 @@ module _ (m : Meaning) (multiple : Bool) (h : Head) where
         → Ruled m (before a count) h strict (operation_ruling m multiple (taken_at h.name (taken_by entries count)) h (operations_stored a count) (arriving_name h))
     operation_ruled a count kind =
         says_so m (before a count) h strict (cond (eqb h.name 0) anonymous_operation named_operation) _ (operation_role h kind) (operation_says (eqb h.name 0) a count)
-
-  -- a fragment
-  fragment_told : (taken : Option ℕ) (known : Bool) → told (fragment_ruling multiple taken known h) ≡ error_rows 0 (fragment_errors taken known h)
-  fragment_told (Some at) true = refl
-  fragment_told (Some at) false = refl
-  fragment_told None true = refl
-  fragment_told None false = refl
-
-  fragment_stored : (taken : Option ℕ) (known : Bool) → (fragment_ruling multiple taken known h).set_type ≡ fragment_type taken known h
-  fragment_stored (Some at) true = refl
-  fragment_stored (Some at) false = refl
-  fragment_stored None true = refl
-  fragment_stored None false = refl
-
-  fragment_multiple : (taken : Option ℕ) (known : Bool) → (fragment_ruling multiple taken known h).multiple_anonymous ≡ multiple
-  fragment_multiple (Some at) true = refl
-  fragment_multiple (Some at) false = refl
-  fragment_multiple None true = refl
-  fragment_multiple None false = refl
-
-  pub fragment_ruled : (s : State) (strict : Bool) → s.multiple ≡ multiple → h.kind ≡ 2
-      → Ruled m s h strict (fragment_ruling multiple (taken_at h.name s.fragments) (m.known h.condition) h)
-  fragment_ruled s strict same kind =
-      let taken = taken_at h.name s.fragments in
-      let known = m.known h.condition in
-      says_so m s h strict fragment _ (fragment_role h kind)
-      (record { errors = fragment_told taken known; stored = fragment_stored taken known; multiple = fragment_multiple taken known ∙ sym same })

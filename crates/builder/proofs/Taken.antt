@@ -76,10 +76,6 @@ module _ (definitions : List StoredDefinition) (slots : List ℕ) (name : ℕ) (
   of_all s =
       subst (λ (ds : List StoredDefinition). Located same_name (map name_of ds) name r) (sym (take_all (length definitions) definitions (omega arith))) (located s)
 
-  pub inside_all : (k : ℕ) → r ≡ Some k → k < length definitions
-  inside_all k is =
-      ∥∥₁_elim sound (Prim.hlevel props) (λ s. inside definitions (length definitions) (omega arith) name k (subst (Located same_name (keys_of name_of (length definitions) definitions) name) is (of_all s)))
-
   pub found_all : (k : ℕ) → r ≡ Some k → Some (get_or definitions k no_stored_definition).row.name_location ≡ taken_at name (taken_by definitions (length definitions))
   found_all k is =
       ∥∥₁_elim sound (Prim.hlevel props) (λ s. found definitions (length definitions) (omega arith) name k (subst (Located same_name (keys_of name_of (length definitions) definitions) name) is (of_all s)))

@@ -1,8 +1,8 @@
 -- One error behind the others, or none.
-use Rattle.std.proofs.Common.{◌+◌, [], length, sym, ap, ◌∙◌, arith}
+use Rattle.std.proofs.Common.{◌+◌, [], length, sym, ap, ◌∙◌}
 use Rattle.builder.specs.Filling.{put}
 use Rattle.builder.specs.Ruling.{maybe}
-use Rattle.builder.proofs.Puts.{put_nil, set-put}
+use Rattle.builder.proofs.Puts.{set-put}
 use Rattle.builder.proofs.store.list_one.Goals as goal
 
 pub returns-in-Some : goal.returns-in-Some
@@ -11,12 +11,4 @@ returns-in-Some c =
     record {
       listed = set-put c.args.errors.now c.args.at c.in-Some.error c.requires ∙ ap (λ x. put c.args.errors.now c.args.at (maybe x [])) (sym was);
       counted = ap (λ x. c.args.at + length (maybe x [])) (sym was);
-    }
-
-pub returns-in-None : goal.returns-in-None
-returns-in-None c =
-    let was = c.in-None.is in
-    record {
-      listed = sym (put_nil c.args.errors.now c.args.at) ∙ ap (λ x. put c.args.errors.now c.args.at (maybe x [])) (sym was);
-      counted = sym (ap (λ x. c.args.at + length (maybe x [])) was ∙ omega arith);
     }
