@@ -38,6 +38,7 @@ pub fn probe<E: Entry>(entries: &[E], slots: &[u32], key: &E::Of) -> Probed
         return Probed::Round;
     }
     let mut at = start_slot(key.hash(), size);
+    // Kept: the walk starts where the hash says and goes round the end, so no iterator over the slots is plainer.
     for step in 0..size {
         let held = slots[at] as usize;
         if held == 0 {
