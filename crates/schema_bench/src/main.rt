@@ -70,10 +70,7 @@ fn make<'a>(
             subscription: 0,
         },
     };
-    match TableSchema::new(heap, &rows) {
-        Ok(schema) => Ok(schema),
-        Err(_) => Err(anyhow!("the rows are no schema")),
-    }
+    TableSchema::new(heap, &rows).map_err(|_| anyhow!("the rows are no schema"))
 }
 
 // Every field in its type, by steps over the rows: 1 is their order, another odd step a mixed one.

@@ -61,10 +61,7 @@ fn table(heap: Global, fields: &[(u32, u32, u32)], query: Name) -> Result<TableS
             subscription: 0,
         },
     };
-    match TableSchema::new(heap, &rows) {
-        Ok(schema) => Ok(schema),
-        Err(fault) => Err(Fail::new(Refusal::from(fault).reason.number())),
-    }
+    TableSchema::new(heap, &rows).map_err(|fault| Fail::new(Refusal::from(fault).reason.number()))
 }
 
 // A field by the place of its definition and its inner type, or why there is none.
