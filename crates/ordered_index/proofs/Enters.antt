@@ -1,7 +1,11 @@
 -- What a probe comes to on a sound index: where a key is, and that the index stays sound with one key more.
-use Rattle.std.proofs.Common.{◌≡◌, ℕ, ◌+◌, ◌<◌, Bool, true, false, List, [], ◌∷◌, ◌++◌, map, length, get_or, take, set, Some, Option, sym, refl, ap, ◌∙◌, subst, arith}
+use Rattle.std.proofs.Common.{◌≡◌, ℕ, nat_eq, ◌+◌, ◌<◌, Bool, true, false, List, [], ◌∷◌, ◌++◌, map, length, get_or, take, set, Some, None, Option, sym, refl, ap, ◌∙◌, subst, arith}
 use Rattle.std.proofs.lemmas.List.{length-map, length-take-le, map_push, take_more_set, get_or-map}
-use Rattle.std.proofs.lemmas.Bool.{ltb-true}
+use Rattle.std.proofs.lemmas.Bool.{ltb-true, eqb-true, eq-eqb, false≢true}
+use Rattle.std.specs.List.{list_all, enumerate_from}
+use Rattle.std.specs.Option.{option_eq}
+use Rattle.std.proofs.lemmas.List.Sums.{AllPass-from_list_all, list_all-from_AllPass}
+use Rattle.std.proofs.lemmas.List.FromFn.{length-enumerate_from, get_or-enumerate_from}
 use Rattle.ordered_index.specs.Law.{Lawful}
 use Rattle.ordered_index.specs.Slots.{limit}
 use Rattle.ordered_index.specs.Sound.{Sound, Located, keys_of}
@@ -151,10 +155,33 @@ module _ {E K : Type 0} (keyed : E → K) (equal : K → K → Bool) (digest : K
       ∙ ap (map keyed) (sym (take_more_set entries count e low) ∙ ap (λ i. take (count + 1) (set entries i e)) (sym at)) in
       subst (λ (keys : List K). Sound equal digest keys slots) row
 
--- the probe for the key of an entry that was read
-pub own_found : {E K : Type 0} (keyed : E → K) (equal : K → K → Bool) (digest : K → ℕ) (entries : List E) (slots : List ℕ) (i : ℕ) (e : E) (k : K) (r : Option ℕ)
-    → i < length entries → e ≡ get_or entries i e → k ≡ keyed e → r ≡ found_at (probe_for equal digest (map keyed entries) slots k)
-    → (x : K) → found_at (probe_for equal digest (map keyed entries) slots (get_or (map keyed entries) i x)) ≡ r
-own_found keyed equal digest entries slots i e k r low read is answer x =
-    let same : get_or (map keyed entries) i x ≡ k = get_or-map keyed entries i e x low ∙ ap keyed (sym read) ∙ sym is in
-    ap (λ y. found_at (probe_for equal digest (map keyed entries) slots y)) same ∙ sym answer
+-- whether each entry is found at its own place, as a test of all of them
+module _ {E K : Type 0} (keyed : E → K) (equal : K → K → Bool) (digest : K → ℕ) (entries : List E) (slots : List ℕ) where
+  abbrev found_for : K → Option ℕ
+  found_for k = found_at (probe_for equal digest (map keyed entries) slots k)
+
+  abbrev at_place : ℕ × E → Bool
+  at_place placed = option_eq nat_eq (found_for (keyed placed.1)) (Some placed.0)
+
+  same_place : (r : Option ℕ) (i : ℕ) → option_eq nat_eq r (Some i) ≡ true → r ≡ Some i
+  same_place None i is = absurd (false≢true is)
+  same_place (Some n) i is = ap Some (eqb-true n i is)
+
+  any_of : (xs : List E) (n : ℕ) → n < length xs → E
+  any_of [] n low = absurd (omega arith)
+  any_of (x ∷ xs) n low = x
+
+  pub each_placed : list_all at_place (enumerate_from 0 entries) ≡ true → (n : ℕ) (x : K) → n < length (map keyed entries) → found_for (get_or (map keyed entries) n x) ≡ Some n
+  each_placed all n x low =
+      let inside : n < length entries = omega (arith, length-map entries keyed) in
+      let d = any_of entries n inside in
+      let pass = AllPass-from_list_all at_place (enumerate_from 0 entries) all n (0, d) (omega (arith, length-enumerate_from 0 entries)) in
+      let here = get_or-enumerate_from 0 entries n (0, d) inside in
+      ap found_for (get_or-map keyed entries n d x inside) ∙ same_place _ (0 + n) (sym (ap at_place here) ∙ pass) ∙ ap Some (omega arith)
+
+  pub all_placed : ((n : ℕ) (x : K) → n < length (map keyed entries) → found_for (get_or (map keyed entries) n x) ≡ Some n) → list_all at_place (enumerate_from 0 entries) ≡ true
+  all_placed each = list_all-from_AllPass at_place (enumerate_from 0 entries) (λ n d low.
+      let inside : n < length entries = omega (arith, length-enumerate_from 0 entries) in
+      let found = ap found_for (sym (get_or-map keyed entries n d.1 (keyed d.1) inside)) ∙ each n (keyed d.1) (omega (arith, length-map entries keyed)) in
+      ap at_place (get_or-enumerate_from 0 entries n d inside)
+      ∙ ap (λ r. option_eq nat_eq r (Some (0 + n))) found ∙ eq-eqb n (0 + n) (omega arith))

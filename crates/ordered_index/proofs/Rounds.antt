@@ -1,9 +1,10 @@
 -- A probe that goes round has seen each slot, so a sound index, which has an empty one, stops it before.
-use Rattle.std.proofs.Common.{◌≡◌, ℕ, suc, ◌+◌, ◌-◌, ◌/◌, ◌%◌, ◌<◌, ◌≤◌, Bool, cond, ltb, List, [], ◌∷◌, length, get_or, sym, refl, ap, ◌∙◌, subst, ⊎_elim, mod-lt, mod-eq_of_lt, arith, pow_pos}
+use Rattle.std.proofs.Common.{◌≡◌, ℕ, zero, suc, ◌+◌, ◌-◌, ◌*◌, ◌/◌, ◌%◌, ◌<◌, ◌≤◌, Bool, cond, ltb, List, [], ◌∷◌, length, get_or, replicate, sym, refl, ap, ◌∙◌, subst, mod-lt, mod-eq_of_lt, arith, pow_pos}
 use native.Mathlib.Nat.{min-le_left, add-mod-mod, mod-add-mod, add-mod_right}
 use Rattle.std.proofs.lemmas.List.Sums.{sum_by-cons}
-use Rattle.std.proofs.lemmas.List.{get_or_past}
-use Rattle.std.proofs.lemmas.Bool.{lt-ltb, cases_lt}
+use Rattle.std.proofs.lemmas.List.{length-replicate}
+use Rattle.std.proofs.lemmas.List.Folds.{sum_by-replicate}
+use Rattle.std.proofs.lemmas.Bool.{lt-ltb}
 use Rattle.std.specs.Int.{IsPowerOfTwo}
 use Rattle.ordered_index.specs.Slots.{used}
 use Rattle.ordered_index.specs.Sound.{Sound}
@@ -45,23 +46,19 @@ module _ {K : Type 0} (equal : K → K → Bool) (digest : K → ℕ) (keys : Li
       subst (λ (a : ℕ). 0 < get_or slots a 0) up.2 (missed up.0 up.1).taken) in
       omega (arith, sparse equal digest keys slots sound, sound.filled)
 
-pub used_none : (xs : List ℕ) → ((i : ℕ) → i < length xs → get_or xs i 0 ≡ 0) → used xs ≡ 0
-used_none [] empty = refl
-used_none (x ∷ xs) empty =
-    let f : ℕ → ℕ = λ y. cond (ltb 0 y) 1 0 in
-    let split = sum_by-cons f x xs in
-    let none : f x ≡ 0 = ap f (empty 0 (omega arith)) in
-    let rest = used_none xs (λ i low. empty (suc i) (omega arith)) in
-    omega arith
+-- an empty slot holds no place
+nothing : (size k : ℕ) → get_or (replicate size 0) k 0 ≤ 0
+nothing zero k = omega arith
+nothing (suc size) zero = omega arith
+nothing (suc size) (suc k) = nothing size k
 
 -- empty slots are an index of no key
-pub sound_none : {K : Type 0} (equal : K → K → Bool) (digest : K → ℕ) (slots : List ℕ) → IsPowerOfTwo (length slots)
-    → ((i : ℕ) → i < length slots → get_or slots i 0 ≡ 0) → Sound equal digest [] slots
-sound_none equal digest slots power empty = record {
-  power = power;
+pub sound_none : {K : Type 0} (equal : K → K → Bool) (digest : K → ℕ) (size : ℕ) → IsPowerOfTwo size → Sound equal digest [] (replicate size 0)
+sound_none equal digest size power = record {
+  power = (power.0, length-replicate size 0 ∙ power.1);
   few = omega arith;
-  ranged = λ k. ⊎_elim (λ (low : k < length slots). let e = empty k low in omega arith) (λ (high : length slots ≤ k). let e = get_or_past slots k 0 high in omega arith) (cases_lt k (length slots));
-  filled = used_none slots empty;
+  ranged = nothing size;
+  filled = let none : size * 0 ≡ 0 = omega arith in sum_by-replicate (λ y. cond (ltb 0 y) 1 0) size 0 ∙ none;
   reached = λ n x inside. absurd (omega arith);
   apart = λ i j x low inside. absurd (omega arith);
 }

@@ -5,4 +5,3 @@ pub mod Probing
 pub mod Entering
 pub mod Keys
 pub mod Laws
-pub mod Firsts

@@ -1,6 +1,8 @@
 // Whether slots that are handed back are a sound index of the entries beside them.
-ghost use Rattle.std.specs.Prelude.{◌≡◌, ℕ, ◌<◌, ◌≤◌, map, length, Some, Decides, slice_index, slice_index_or};
+ghost use Rattle.std.specs.Prelude.{◌≡◌, ℕ, ◌≤◌, map, nat_eq, Decides, slice_index};
 ghost use Rattle.std.specs.Int.{IsPowerOfTwo};
+ghost use Rattle.std.specs.List.{list_all, enumerate_from};
+ghost use Rattle.std.specs.Option.{option_eq};
 ghost use Rattle.ordered_index.specs.Slots.{used};
 ghost use Rattle.ordered_index.specs.Sound.{Sound};
 ghost use Rattle.ordered_index.specs.Probing.{probe_for, found_at};
@@ -30,14 +32,12 @@ fn count_used(slots: &[u32]) -> usize
 
 // Whether each entry is found at its own place.
 fn each_found<E: Entry>(entries: &[E], slots: &[u32]) -> bool
-    ensures { Decides result ((n : ℕ) (x : E.Of) → n < length (map E.keyed entries.now) → found_at (probe_for E.Of.eq E.Of.digest (map E.keyed entries.now) slots.now (slice_index_or (map E.keyed entries.now) n x)) ≡ Some n) }
+    ensures { result ≡ list_all (λ placed. option_eq nat_eq (found_at (probe_for E.Of.eq E.Of.digest (map E.keyed entries.now) slots.now (E.keyed placed.1))) (Some placed.0)) (enumerate_from 0 entries.now) }
 {
-    for (i, entry) in entries.iter().enumerate() {
-        if find(entries, slots, &entry.key()) != Some(i) {
-            return false;
-        }
-    }
-    true
+    entries
+        .iter()
+        .enumerate()
+        .all(|(i, entry)| find(entries, slots, &entry.key()) == Some(i))
 }
 
 // Whether the slots are a sound index of the entries.

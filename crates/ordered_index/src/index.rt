@@ -1,5 +1,5 @@
 // Finding an entry by its key, entering one more key, and starting from none.
-ghost use Rattle.std.specs.Prelude.{◌≡◌, ℕ, false, [], map, length, replicate};
+ghost use Rattle.std.specs.Prelude.{◌≡◌, false, [], map, length, replicate};
 ghost use Rattle.std.specs.Int.{IsPowerOfTwo};
 ghost use Rattle.ordered_index.specs.Slots.{limit};
 ghost use Rattle.ordered_index.specs.Sound.{Sound, Located, keys_of};

@@ -6,6 +6,7 @@ ghost use Rattle.ordered_index.specs.Probing.{probe_for};
 use crate::key::{Entry, Key};
 
 // Where a probe ends: at the key's place, at an empty slot, or with every slot looked at.
+// Kept: no `Option` or `Result` has these three cases, and only an empty slot can take a new key.
 #[derive(Clone, Copy)]
 pub enum Probed {
     Found(usize),
@@ -37,15 +38,14 @@ pub fn probe<E: Entry>(entries: &[E], slots: &[u32], key: &E::Of) -> Probed
         return Probed::Round;
     }
     let mut at = start_slot(key.hash(), size);
+    // Kept: the walk starts where the hash says and goes round the end, so no iterator over the slots is plainer.
     for step in 0..size {
         let held = slots[at] as usize;
         if held == 0 {
             return Probed::Vacant(at);
         }
-        if held <= entries.len() {
-            if entries[held - 1].key() == *key {
-                return Probed::Found(held - 1);
-            }
+        if held <= entries.len() && entries[held - 1].key() == *key {
+            return Probed::Found(held - 1);
         }
         at = next_slot(at, size);
     }

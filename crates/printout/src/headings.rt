@@ -2,6 +2,7 @@
 use crate::answers::{Answered, OfKind};
 use crate::sections::TableText;
 use crate::shown::Shown;
+use refusal::UnknownNumber;
 use schema::{Answer, OperationType, Question, TypeKind};
 use std::fmt;
 use table_schema::{FieldRow, TypeRow};
@@ -23,17 +24,16 @@ impl fmt::Display for Shown<'_, '_, &TableText> {
             let row = Shown { names, value: *row };
             write!(f, "\n  {row}")?;
         }
-        let roots = [
-            (OperationType::Query, head.roots.query),
-            (OperationType::Mutation, head.roots.mutation),
-            (OperationType::Subscription, head.roots.subscription),
+        let operations = [
+            OperationType::Query,
+            OperationType::Mutation,
+            OperationType::Subscription,
         ];
-        for (operation, root) in roots {
+        for operation in operations {
             let root = Answered {
                 names,
                 question: Question::Root(operation),
-                // The number 0 is no root.
-                answer: Answer::Root(Some(root).filter(|root| *root != 0)),
+                answer: Answer::Root(head.roots.of(operation)),
             };
             write!(f, "\n  {root}")?;
         }
@@ -44,15 +44,12 @@ impl fmt::Display for Shown<'_, '_, &TableText> {
 impl fmt::Display for Shown<'_, '_, TypeRow> {
     fn fmt<W: fmt::Write>(&self, f: &mut fmt::Formatter<W>) -> fmt::Result {
         let name = self.names.show(self.value.name);
-        match TypeKind::from_number(self.value.kind) {
-            Some(kind) => {
+        match TypeKind::try_from(self.value.kind) {
+            Ok(kind) => {
                 let kind = OfKind(kind);
                 write!(f, "type {name}: {kind}")
             }
-            None => {
-                let kind = self.value.kind;
-                write!(f, "type {name}: of the unknown kind {kind}")
-            }
+            Err(UnknownNumber(kind)) => write!(f, "type {name}: of the unknown kind {kind}"),
         }
     }
 }

@@ -1,6 +1,7 @@
 // The definitions and the selections of a document in words.
 use crate::shown::Shown;
-use document::{DefinitionRow, SelectionRow};
+use document::{DefinitionKind, DefinitionRow, SelectionKind, SelectionRow};
+use schema::OperationType;
 use std::fmt;
 
 /// A definition, as `fragment F on Meter`.
@@ -8,20 +9,23 @@ impl fmt::Display for Shown<'_, '_, DefinitionRow> {
     fn fmt<W: fmt::Write>(&self, f: &mut fmt::Formatter<W>) -> fmt::Result {
         let row = self.value;
         let name = self.names.show(row.name);
-        let operation = match row.operation_type {
-            0 => "query",
-            1 => "mutation",
+        let operation = match OperationType::try_from(row.operation_type) {
+            Ok(OperationType::Query) => "query",
+            Ok(OperationType::Mutation) => "mutation",
             _ => "subscription",
         };
-        match (row.kind, row.name) {
-            (1, 0) => write!(f, "anonymous {operation}"),
-            (1, _) => write!(f, "{operation} {name}"),
-            (2, _) => {
+        match row.definition_kind() {
+            Some(DefinitionKind::Operation) if row.name == 0 => write!(f, "anonymous {operation}"),
+            Some(DefinitionKind::Operation) => write!(f, "{operation} {name}"),
+            Some(DefinitionKind::Fragment) => {
                 let condition = self.names.show(row.condition);
                 write!(f, "fragment {name} on {condition}")
             }
-            (kind, 0) => write!(f, "type system definition (kind {kind})"),
-            (kind, _) => write!(f, "type system definition (kind {kind}) {name}"),
+            _ => {
+                let kind = row.kind;
+                write!(f, "type system definition (kind {kind})")?;
+                if row.name == 0 { Ok(()) } else { write!(f, " {name}") }
+            }
         }
     }
 }
@@ -33,11 +37,11 @@ impl fmt::Display for Shown<'_, '_, SelectionRow> {
         let name = self.names.show(row.name);
         let alias = self.names.show(row.alias);
         let condition = self.names.show(row.condition);
-        match (row.kind, row.alias, row.condition) {
-            (1, 0, _) => write!(f, "{name}"),
-            (1, _, _) => write!(f, "{alias}: {name}"),
-            (2, _, _) => write!(f, "...{name}"),
-            (_, _, 0) => write!(f, "..."),
+        match row.selection_kind() {
+            Some(SelectionKind::Field) if row.alias == 0 => write!(f, "{name}"),
+            Some(SelectionKind::Field) => write!(f, "{alias}: {name}"),
+            Some(SelectionKind::Spread) => write!(f, "...{name}"),
+            _ if row.condition == 0 => write!(f, "..."),
             _ => write!(f, "... on {condition}"),
         }
     }

@@ -30,14 +30,12 @@ impl TableText {
     pub fn rows(&self) -> SchemaRows<'_>
         ensures types { result.types.now ≡ self.now.types.items }
         ensures fields { result.fields.now ≡ self.now.fields.items }
-        ensures roots { (result.query ≡ self.now.head.roots.query) × (result.mutation ≡ self.now.head.roots.mutation) × (result.subscription ≡ self.now.head.roots.subscription) }
+        ensures roots { result.roots ≡ self.now.head.roots }
     {
         SchemaRows {
             types: self.types.as_slice(),
             fields: self.fields.as_slice(),
-            query: self.head.roots.query,
-            mutation: self.head.roots.mutation,
-            subscription: self.head.roots.subscription,
+            roots: self.head.roots,
         }
     }
 

@@ -23,7 +23,7 @@ fn print_case(rt: &HostRuntime, case: &Case) -> io::Result<()> {
     let Err(refusal) = check_case(rt.alloc(), case) else {
         return Ok(());
     };
-    let number = refusal.number;
+    let number = refusal.reason.number();
     let layer = refusal.layer.number();
     let row = refusal.row;
     println!(rt; "refused {number} {layer} {row}")

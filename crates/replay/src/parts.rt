@@ -1,6 +1,6 @@
 // What a test case is made of.
 use document::{DefinitionRow, SelectionRow};
-use table_schema::{FieldRow, TypeRow};
+use table_schema::{FieldRow, RootTypes, TypeRow};
 
 /// A test case: a schema, and the sides that are built over it, two where they are to be compared.
 #[derive(Drop)]
@@ -23,9 +23,7 @@ pub enum SchemaPart {
 pub struct TablePart {
     pub types: Vec<TypeRow>,
     pub fields: Vec<FieldRow>,
-    pub query: u32,
-    pub mutation: u32,
-    pub subscription: u32,
+    pub roots: RootTypes,
 }
 
 /// A side: the lengths of its tables, where they are not the full limits, and the documents that are added.

@@ -3,7 +3,7 @@ use crate::parts::{Case, DocumentPart, SchemaPart, Side, TableLengths, TablePart
 use crate::words::Words;
 use document::{DefinitionRow, SelectionRow};
 use std::alloc::{AllocFailed, Global};
-use table_schema::{FieldRow, TypeRow};
+use table_schema::{FieldRow, RootTypes, TypeRow};
 
 /// Why a part was not read.
 #[derive(Clone, Copy, PartialEq, Eq, Debug)]
@@ -169,9 +169,11 @@ impl Part for SchemaPart {
         Ok(SchemaPart::Table(TablePart {
             types,
             fields,
-            query,
-            mutation,
-            subscription,
+            roots: RootTypes {
+                query,
+                mutation,
+                subscription,
+            },
         }))
     }
 }

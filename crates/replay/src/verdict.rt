@@ -13,11 +13,9 @@ fn check_schema(heap: Global, schema: &SchemaPart) -> Result<(), Refusal> {
     let rows = SchemaRows {
         types: table.types.as_slice(),
         fields: table.fields.as_slice(),
-        query: table.query,
-        mutation: table.mutation,
-        subscription: table.subscription,
+        roots: table.roots,
     };
-    TableSchema::new(heap, &rows).map_err(|fault| fault.refusal())?;
+    TableSchema::new(heap, &rows)?;
     Ok(())
 }
 
@@ -27,7 +25,7 @@ fn check_document(part: &DocumentPart) -> Result<(), Refusal> {
         definitions: part.definitions.as_slice(),
         rows: part.rows.as_slice(),
     };
-    document.check().map_err(|fault| fault.refusal())
+    Ok(document.check()?)
 }
 
 /// Refuses a case by its schema, or else by the first of its documents that is refused.

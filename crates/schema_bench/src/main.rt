@@ -10,7 +10,7 @@ use std::alloc::{AllocError, Global};
 use std::io;
 use std::ops::Range;
 use std::time::{Duration, Instant};
-use table_schema::{FieldRow, SchemaRows, TableSchema, TypeRow};
+use table_schema::{FieldRow, RootTypes, SchemaRows, TableSchema, TypeRow};
 
 const TYPES: u32 = 1024;
 
@@ -63,9 +63,11 @@ fn make(heap: Global, types: &[TypeRow], fields: &[FieldRow]) -> anyhow::Result<
     let rows = SchemaRows {
         types,
         fields,
-        query: FIRST_TYPE,
-        mutation: FIRST_TYPE + 1,
-        subscription: 0,
+        roots: RootTypes {
+            query: FIRST_TYPE,
+            mutation: FIRST_TYPE + 1,
+            subscription: 0,
+        },
     };
     TableSchema::new(heap, &rows).map_err(|_| anyhow!("the rows are no schema"))
 }
@@ -99,11 +101,7 @@ fn kind_worth(schema: &MetaLayer<TableSchema>, (type_name, _): Pair) -> u32 {
 
 // What the answer for a root is worth: the types take turns in asking for each.
 fn root_worth(schema: &MetaLayer<TableSchema>, (type_name, _): Pair) -> u32 {
-    let operation = match type_name % 3 {
-        0 => OperationType::Query,
-        1 => OperationType::Mutation,
-        _ => OperationType::Subscription,
-    };
+    let operation = OperationType::try_from(type_name % 3).unwrap_or(OperationType::Subscription);
     schema.root_operation(operation).unwrap_or(0) ^ type_name
 }
 

@@ -126,11 +126,10 @@ const BESIDE: [Beside; 21] = [
 
 #[test]
 fn slots_beside_names(rt: HostRuntime) -> Result<(), Fail> {
-    for i in 0..BESIDE.len() {
-        let (names, count, slots, sound) = BESIDE[i];
+    for (i, (names, count, slots, sound)) in BESIDE.iter().enumerate() {
         let entries = named(rt.alloc(), names)?;
-        let in_use = &entries.as_slice()[..count.min(entries.len())];
-        assert_eq!(rt; agrees(in_use, slots), sound, "{}", i);
+        let in_use = &entries.as_slice()[..(*count).min(entries.len())];
+        assert_eq!(rt; agrees(in_use, slots), *sound, "{}", i);
     }
     Ok(())
 }

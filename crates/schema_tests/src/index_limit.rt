@@ -69,9 +69,9 @@ pub fn fill<E: Entry>(
     new: &[E],
 ) -> Result<(), Fail> {
     assert!(rt; agrees(&entries[..0], slots));
-    for i in 0..new.len() {
+    for (i, entry) in new.iter().enumerate() {
         assert_eq!(rt;
-            insert(entries, i, slots, new[i]),
+            insert(entries, i, slots, *entry),
             Entered::Added(i),
             "{}",
             i
@@ -90,12 +90,12 @@ fn each_at_its_place<E: Entry>(
     present: &[E],
 ) {
     let count = present.len();
-    for i in 0..count {
-        let key = present[i].key();
+    for (i, entry) in present.iter().enumerate() {
+        let key = entry.key();
         assert_eq!(rt; find(&entries[..count], slots, &key), Some(i), "{}", i);
         assert_eq!(rt; find(&entries[..i], slots, &key), None, "{}", i);
         assert_eq!(rt;
-            insert(entries, count, slots, present[i]),
+            insert(entries, count, slots, *entry),
             Entered::Present(i),
             "{}",
             i

@@ -61,10 +61,7 @@ fn table(heap: Global, fields: &[(u32, u32, u32)], query: Name) -> Result<TableS
             subscription: 0,
         },
     };
-    match TableSchema::new(heap, &rows) {
-        Ok(schema) => Ok(schema),
-        Err(fault) => Err(Fail::new(Refusal::from(fault).reason.number())),
-    }
+    TableSchema::new(heap, &rows).map_err(|fault| Fail::new(Refusal::from(fault).reason.number()))
 }
 
 // A field by the place of its definition and its inner type, or why there is none.
@@ -125,10 +122,9 @@ fn fields<S: Schema>(
 // The schema gives these answers to any questions, whether it is asked itself or borrowed.
 fn answers<S: Schema>(rt: &impl Abort, schema: &S, cases: &[(Question, Answer)]) {
     let borrowed = &schema;
-    for i in 0..cases.len() {
-        let (question, answer) = cases[i];
-        assert_eq!(rt; ask(schema, question), answer, "{}", i);
-        assert_eq!(rt; ask(borrowed, question), answer, "{}", i);
+    for (i, (question, answer)) in cases.iter().enumerate() {
+        assert_eq!(rt; ask(schema, *question), *answer, "{}", i);
+        assert_eq!(rt; ask(borrowed, *question), *answer, "{}", i);
     }
 }
 
@@ -151,10 +147,10 @@ fn in_type(
     type_name: Name,
     expected: &[Found; 8],
 ) -> Result<(), Fail> {
-    for i in 0..8 {
-        fields(rt, layer, &[(type_name, ASKED[i], expected[i])])?;
-        let lent = field_or_meta_field(&layer.lower, type_name, ASKED[i]);
-        assert_eq!(rt; found(lent), expected[i], "{}; {}", type_name, i);
+    for (field_name, answer) in ASKED.iter().zip(expected) {
+        fields(rt, layer, &[(type_name, *field_name, *answer)])?;
+        let lent = field_or_meta_field(&layer.lower, type_name, *field_name);
+        assert_eq!(rt; found(lent), *answer, "{}; {}", type_name, field_name);
     }
     Ok(())
 }

@@ -7,6 +7,7 @@ use refusal::Layer;
 use std::alloc::Global;
 use std::process::Abort;
 use std::test::Fail;
+use table_schema::{RowFault, SchemaFault};
 
 // Types by name and kind, fields by owner, name and inner type, and the refusal by number and row, 0 and 0 for none.
 type Case = (
@@ -23,12 +24,11 @@ fn told(number: u32, row: u32) -> Option<Told> {
 }
 
 fn each(rt: &impl Abort, heap: Global, cases: &[Case]) -> Result<(), Fail> {
-    for i in 0..cases.len() {
-        let (types, fields, (number, row)) = cases[i];
+    for (types, fields, (number, row)) in cases {
         let types = type_rows(heap, types)?;
         let fields = field_rows(heap, fields)?;
         let rows = rootless(types.as_slice(), fields.as_slice());
-        come_to(rt, heap, &rows, told(number, row))?;
+        come_to(rt, heap, &rows, told(*number, *row))?;
     }
     Ok(())
 }
@@ -173,6 +173,42 @@ fn sizes(rt: HostRuntime) -> Result<(), Fail> {
     ];
     for (types, fields, damaged, number, row) in cases {
         sized(&rt, rt.alloc(), types, fields, damaged, number, row)?;
+    }
+    Ok(())
+}
+
+// Each fault in words.
+#[test]
+fn faults_in_words(rt: HostRuntime) -> Result<(), Fail> {
+    let cases = [
+        (
+            SchemaFault::OverLimit,
+            "it has more types or fields than a schema holds",
+        ),
+        (
+            SchemaFault::SlotsUnfit,
+            "the slots that were lent do not fit it",
+        ),
+        (
+            SchemaFault::InTypes(RowFault::NameMissing, 1),
+            "type 1 lacks a name",
+        ),
+        (
+            SchemaFault::InTypes(RowFault::KindUnknown, 1024),
+            "type 1024 is of no known kind",
+        ),
+        (
+            SchemaFault::InFields(RowFault::Repeated, 2),
+            "field 2 comes twice",
+        ),
+        (
+            SchemaFault::InFields(RowFault::OwnerUnfit, 4096),
+            "field 4096 is in no object or interface of the schema",
+        ),
+    ];
+    for (fault, words) in cases {
+        let told = format!(in rt.alloc(); "{fault}")?;
+        assert_eq!(rt; told.as_str(), words);
     }
     Ok(())
 }

@@ -101,10 +101,7 @@ pub fn told(refusal: Refusal) -> Told {
 
 // What is told, if the call was refused.
 pub fn refused(verdict: Result<(), SchemaFault>) -> Option<Told> {
-    match verdict {
-        Ok(()) => None,
-        Err(fault) => Some(told(Refusal::from(fault))),
-    }
+    verdict.err().map(|fault| told(Refusal::from(fault)))
 }
 
 fn all_empty(slots: &[u32]) -> bool {
@@ -131,10 +128,9 @@ pub fn come_to(
     if expected.is_some() {
         assert!(rt; all_empty(type_slots.as_slice()) && all_empty(field_slots.as_slice()));
     }
-    let made = match TableSchema::new(heap, rows) {
-        Ok(_) => None,
-        Err(fault) => Some(told(Refusal::from(fault))),
-    };
+    let made = TableSchema::new(heap, rows)
+        .err()
+        .map(|fault| told(Refusal::from(fault)));
     assert_eq!(rt;
         made,
         expected,

@@ -64,8 +64,7 @@ const UNFIT: [((usize, usize), (usize, usize)); 13] = [
 
 #[test]
 fn slots_unfit(rt: HostRuntime) -> Result<(), Fail> {
-    for i in 0..UNFIT.len() {
-        let (type_slots, field_slots) = UNFIT[i];
+    for (type_slots, field_slots) in UNFIT {
         let lent = Lent {
             type_slots,
             field_slots,

@@ -1,9 +1,14 @@
--- The entries of rows: one more, where one is found, and what it answers.
-use Rattle.std.proofs.Common.{◌≡◌, ℕ, zero, suc, ◌+◌, ◌<◌, Bool, true, false, cond, ◌&&◌, ◌||◌, eqb, List, [], ◌∷◌, ◌++◌, map, length, replicate, get_or, take, is_some, Some, None, Ok, Err, Option, refl, ap, ◌∙◌, arith}
-use Rattle.std.proofs.lemmas.List.{take_more, length-take-le, length-replicate}
+-- The entries of rows: where one is found, and what it answers.
+use Rattle.std.proofs.Common.{◌≡◌, ℕ, zero, suc, ◌+◌, ◌<◌, Bool, true, false, cond, ◌&&◌, ◌||◌, eqb, List, [], ◌∷◌, map, length, replicate, get_or, take, is_some, Some, None, Ok, Err, Option, slice_get, sym, refl, ap, ◌∙◌, arith}
+use Rattle.std.specs.Option.{option_and_then}
+use Rattle.std.proofs.lemmas.Option.{slice_get-get_or}
+use Rattle.std.specs.List.{enumerate_from}
+use Rattle.std.proofs.lemmas.List.{length-replicate, length-map, get_or-map}
+use Rattle.std.proofs.lemmas.List.FromFn.{length-enumerate_from, get_or-enumerate_from}
 use Rattle.table_schema.specs.declared.rows.FieldRow.{FieldRow}
+use Rattle.table_schema.specs.declared.rows.FieldEntry.{FieldEntry}
 use Rattle.std.proofs.lemmas.Bool.{false≢true, and_from, eq-eqb}
-use Rattle.ordered_index.specs.Firsts.{first_place}
+use Rattle.std.specs.List.{position_from}
 use Rattle.ordered_index.specs.Keys.{same_field}
 use Rattle.schema.specs.declared.answers.FieldLookupError.TheVariants.{NoSuchType}
 use Rattle.schema.specs.Meta.{defined}
@@ -14,25 +19,12 @@ use Rattle.table_schema.specs.declared.fault.SchemaFault.TheVariants.{OverLimit,
 use Rattle.table_schema.specs.Keys.{field_key, row_key, entry_key}
 use Rattle.table_schema.specs.Meaning.{no_field, named, owns, known_type, kind_there, kind_of, field_there, field_of}
 use Rattle.refusal.specs.Firsts.{verdict_of}
-use Rattle.table_schema.specs.Verdict.{owns_fields, field_fault_at, types_fault, fields_fault, rows_fault, over_limit, zeros, empty_index, index_fault}
+use Rattle.table_schema.specs.Verdict.{owns_fields, field_fault, fault_at, types_fault, fields_fault, rows_fault, over_limit, zeros, empty_index, index_fault}
 use Rattle.table_schema.specs.Table.{schema_fault}
 use Rattle.table_schema.specs.Found.{first_with}
 use Rattle.table_schema.specs.Kept.{no_entry, entry_told, kept_field, entry_of, entries_from, OwnersKnown}
 use Rattle.refusal.proofs.Firsts.{no_fault, or_else_none}
 use Rattle.table_schema.proofs.Founds.{first_at, with_none, with_some}
-
-entries_push : (k : ℕ) (rows : List FieldRow) (row : FieldRow) → entries_from k (rows ++ row ∷ []) ≡ entries_from k rows ++ entry_of (k + length rows + 1) row ∷ []
-entries_push k [] row = ap (λ n. entry_of n row ∷ []) (omega arith)
-entries_push k (r ∷ rows) row =
-    ap (λ es. entry_of (k + 1) r ∷ es) (entries_push (k + 1) rows row ∙ ap (λ n. entries_from (k + 1) rows ++ entry_of n row ∷ []) (omega arith))
-
--- one row more
-pub entries_more : (rows : List FieldRow) (i : ℕ) → i < length rows
-    → entries_from 0 (take (i + 1) rows) ≡ entries_from 0 (take i rows) ++ entry_of (i + 1) (get_or rows i no_field) ∷ []
-entries_more rows i low =
-    ap (entries_from 0) (take_more rows i no_field low)
-    ∙ entries_push 0 (take i rows) (get_or rows i no_field)
-    ∙ ap (λ n. entries_from 0 (take i rows) ++ entry_of n (get_or rows i no_field) ∷ []) (let long = length-take-le i rows (omega arith) in omega arith)
 
 -- the keys are those of the rows
 pub entry_keys : (k : ℕ) (rows : List FieldRow) → map entry_key (entries_from k rows) ≡ map row_key rows
@@ -41,21 +33,20 @@ entry_keys k (row ∷ rows) = ap (λ keys. row_key row ∷ keys) (entry_keys (k 
 
 -- the entry at a place is that of the row there
 pub entry_at : (k : ℕ) (rows : List FieldRow) (i : ℕ) → i < length rows → get_or (entries_from k rows) i no_entry ≡ entry_of (k + i + 1) (get_or rows i no_field)
-entry_at k [] i low = absurd (omega arith)
-entry_at k (row ∷ rows) zero low = ap (λ n. entry_of n row) (omega arith)
-entry_at k (row ∷ rows) (suc i) low =
-    entry_at (k + 1) rows i (omega arith) ∙ ap (λ n. entry_of n (get_or rows i no_field)) (omega arith)
+entry_at k rows i low =
+    let entry : ℕ × FieldRow → FieldEntry = λ numbered. entry_of (numbered.0 + 1) numbered.1 in
+    get_or-map entry (enumerate_from k rows) i (0, no_field) no_entry (omega (arith, length-enumerate_from k rows))
+    ∙ ap entry (get_or-enumerate_from k rows i (0, no_field) low)
 
 entries_length : (k : ℕ) (rows : List FieldRow) → length (entries_from k rows) ≡ length rows
-entries_length k [] = refl
-entries_length k (row ∷ rows) = ap suc (entries_length (k + 1) rows)
+entries_length k rows = length-map (enumerate_from k rows) (λ numbered. entry_of (numbered.0 + 1) numbered.1) ∙ length-enumerate_from k rows
 
 -- the first entry of a field stands where its first row stands
-entries_first : (k j t f : ℕ) (rows : List FieldRow) → first_place (λ e. same_field (entry_key e) (field_key t f)) (entries_from k rows) j ≡ first_place (owns t f) rows j
+entries_first : (k j t f : ℕ) (rows : List FieldRow) → position_from (λ e. same_field (entry_key e) (field_key t f)) j (entries_from k rows) ≡ position_from (owns t f) j rows
 entries_first k j t f [] = refl
 entries_first k j t f (row ∷ rows) = ap (λ rest. cond (owns t f row) (Some j) rest) (entries_first (k + 1) (j + 1) t f rows)
 
-told_same : (rows : List FieldRow) (t f : ℕ) (at : Option ℕ) → first_place (owns t f) rows 0 ≡ at
+told_same : (rows : List FieldRow) (t f : ℕ) (at : Option ℕ) → position_from (owns t f) 0 rows ≡ at
     → entry_told (first_with entry_key same_field (field_key t f) (entries_from 0 rows)) ≡ field_there rows at
 told_same rows t f None is =
     ap entry_told (with_none entry_key same_field (field_key t f) (entries_from 0 rows) (entries_first 0 0 t f rows ∙ is))
@@ -67,7 +58,7 @@ told_same rows t f (Some i) is =
 -- what the entries answer is what the rows mean
 pub kept_means : (types : List TypeRow) (rows : List FieldRow) → kept_field types (entries_from 0 rows) ≡ field_of types rows
 kept_means types rows =
-    λ i t f. cond (known_type types t) (told_same rows t f (first_place (owns t f) rows 0) refl i) (Err NoSuchType)
+    λ i t f. cond (known_type types t) (told_same rows t f (position_from (owns t f) 0 rows) refl i) (Err NoSuchType)
 
 last_none : (a b c : Bool) → cond a (Some NameMissing) (cond b (Some Repeated) (cond c None (Some OwnerUnfit))) ≡ None → c ≡ true
 last_none true b c is = let z : ◌≡◌ {A = ℕ} 0 1 = cc in absurd (omega arith)
@@ -84,10 +75,12 @@ pub owners_known : (types : List TypeRow) (rows : List FieldRow) → rows_fault 
 owners_known types rows none i low =
     let inside : i < length rows = omega (arith, entries_length 0 rows) in
     let row = get_or rows i no_field in
-    let fine : field_fault_at types rows i ≡ None =
-    ap (field_fault_at types rows) (omega arith) ∙ no_fault InFields (field_fault_at types rows) 0 (length rows) (or_else_none (types_fault types) (fields_fault types rows) none).1 i inside in
+    let here : slice_get rows i ≡ Some row = slice_get-get_or rows i no_field inside in
+    let fine : field_fault types (take i rows) row ≡ None =
+    ap (option_and_then (field_fault types (take i rows))) (sym here) ∙ ap (fault_at (field_fault types) rows) (omega arith)
+    ∙ no_fault InFields (fault_at (field_fault types) rows) 0 (length rows) (or_else_none (types_fault types) (fields_fault types rows) none).1 i inside in
     let owner : (get_or (entries_from 0 rows) i no_entry).key.owner ≡ row.owner = ap (λ e. e.key.owner) (entry_at 0 rows i inside) in
-    ap (known_type types) owner ∙ kind_known types (first_place (named row.owner) types 0) (last_none (eqb row.owner 0 || (eqb row.name 0 || eqb row.inner 0)) (is_some (first_place (owns row.owner row.name) (take i rows) 0)) (owns_fields (kind_of types row.owner)) fine)
+    ap (known_type types) owner ∙ kind_known types (position_from (named row.owner) 0 types) (last_none (eqb row.owner 0 || (eqb row.name 0 || eqb row.inner 0)) (is_some (position_from (owns row.owner row.name) 0 (take i rows))) (owns_fields (kind_of types row.owner)) fine)
 
 accepted : (over fit : Bool) (rows : Option SchemaFault) → Ok tt ≡ verdict_of (cond over (Some OverLimit) (cond fit rows (Some SlotsUnfit))) → (over ≡ false) × (rows ≡ None)
 accepted true fit rows is = let z : ◌≡◌ {A = ℕ} 0 1 = cc in absurd (omega arith)

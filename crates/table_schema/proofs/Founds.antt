@@ -1,8 +1,12 @@
 -- What is found through an index, and what the first place that is found tells.
-use Rattle.std.proofs.Common.{◌≡◌, ℕ, suc, ◌+◌, ◌<◌, Bool, true, false, List, [], ◌∷◌, map, length, get_or, is_some, Some, None, Option, IfSome, Bor, ltb, sym, refl, ap, ◌∙◌, ⊎_elim, arith}
-use Rattle.std.specs.Option.{option_copied}
-use Rattle.std.proofs.lemmas.Bool.{cond-true, cond-false, false≢true, lt-ltb, cases_Bool, eqb-true, and_parts}
-use Rattle.ordered_index.specs.Firsts.{first_place}
+use Rattle.std.proofs.Common.{◌≡◌, ℕ, ◌<◌, ◌≤◌, Bool, cond, true, List, [], ◌∷◌, map, length, get_or, is_some, Some, None, Option, IfSome, Bor, ltb, sym, refl, ap, ◌∙◌, ⊎_elim, arith}
+use Rattle.std.specs.Option.{option_copied, option_and_then}
+use Rattle.std.proofs.lemmas.Option.{slice_get_past, slice_get-get_or}
+use Rattle.std.proofs.lemmas.List.Folds.{find_at}
+use Rattle.std.proofs.lemmas.List.Quantifiers.{position-Some}
+use Rattle.std.proofs.lemmas.Iterator.Adapters.{position_from-zero}
+use Rattle.std.proofs.lemmas.Bool.{cond-true, cond-false, false≢true, lt-ltb, le-ltb, cases_lt, eqb-true, and_parts}
+use Rattle.std.specs.List.{find, position_from, position_or_len, slice_get}
 use Rattle.ordered_index.specs.Sound.{Sound}
 use Rattle.ordered_index.specs.Probing.{probe_for, found_at}
 use Rattle.ordered_index.specs.Law.{Lawful}
@@ -16,27 +20,21 @@ use Rattle.table_schema.specs.Found.{place_with, first_with, KeysFound}
 use Rattle.table_schema.specs.Meaning.{known_type}
 use Rattle.table_schema.specs.Kept.{no_entry, OwnersKnown}
 
--- what is found lies within, and passes
-pub first_hit : {X : Type 0} (p : X → Bool) (xs : List X) (k n : ℕ) (d : X) → first_place p xs k ≡ Some n
-    → (m : ℕ) × (n ≡ k + m) × (m < length xs) × (p (get_or xs m d) ≡ true)
-first_hit p [] k n d is = let z : ◌≡◌ {A = ℕ} 0 1 = cc in absurd (omega arith)
-first_hit p (x ∷ xs) k n d is =
-    ⊎_elim
-    (λ (here : p x ≡ true).
-    let found : Some k ≡ Some n = sym (cond-true _ _ _ here) ∙ is in
-    let at : k ≡ n = cc in
-    (0, omega arith, omega arith, here))
-    (λ (past : p x ≡ false).
-    let later = first_hit p xs (k + 1) n d (sym (cond-false _ _ _ past) ∙ is) in
-    (suc later.0, omega (arith, later.1), omega (arith, later.2), later.3))
-    (cases_Bool (p x))
+-- the first element that passes, and its place
+module _ {X : Type 0} (p : X → Bool) (xs : List X) where
+  read : (n : ℕ) → slice_get xs n ≡ option_and_then (slice_get xs) (cond (ltb n (length xs)) (Some n) None)
+  read n =
+      ⊎_elim
+      (λ (low : n < length xs). sym (ap (option_and_then (slice_get xs)) (cond-true _ _ _ (lt-ltb n (length xs) low))))
+      (λ (past : length xs ≤ n). slice_get_past xs n past ∙ sym (ap (option_and_then (slice_get xs)) (cond-false _ _ _ (le-ltb n (length xs) past))))
+      (cases_lt n (length xs))
 
--- the same counted from 0
-pub first_at : {X : Type 0} (p : X → Bool) (xs : List X) (n : ℕ) (d : X) → first_place p xs 0 ≡ Some n → (n < length xs) × (p (get_or xs n d) ≡ true)
-first_at p xs n d is =
-    let hit = first_hit p xs 0 n d is in
-    let at : hit.0 ≡ n = omega (arith, hit.1) in
-    (omega (arith, hit.2), ap (λ m. p (get_or xs m d)) (sym at) ∙ hit.3)
+  pub find_placed : find p xs ≡ option_and_then (slice_get xs) (position_from p 0 xs)
+  find_placed = find_at p xs ∙ read (position_or_len p xs) ∙ ap (option_and_then (slice_get xs)) (position_from-zero p xs)
+
+  -- what stands at that place lies within, and passes
+  pub first_at : (n : ℕ) (d : X) → position_from p 0 xs ≡ Some n → (n < length xs) × (p (get_or xs n d) ≡ true)
+  first_at n d is = let hit = position-Some p xs n d (position_from-zero p xs ∙ is) in (hit.0, hit.1)
 
 -- a sound index of the entries answers with the place of the first entry that has the key
 pub finds_all : {E K : Type 0} (keyed : E → K) (equal : K → K → Bool) (digest : K → ℕ) → Lawful equal digest → (entries : List E) (slots : List ℕ)
@@ -60,36 +58,12 @@ module _ {E K : Type 0} (keyed : E → K) (equal : K → K → Bool) (q : K) whe
   abbrev has : E → Bool
   has e = equal (keyed e) q
 
-  none_from : (entries : List E) (k : ℕ) → first_place has entries k ≡ None → first_with keyed equal q entries ≡ None
-  none_from [] k is = refl
-  none_from (e ∷ es) k is =
-      ⊎_elim
-      (λ (here : has e ≡ true). let bad : Some k ≡ None = sym (cond-true _ _ _ here) ∙ is in let z : ◌≡◌ {A = ℕ} 0 1 = cc in absurd (omega arith))
-      (λ (past : has e ≡ false). cond-false _ _ _ past ∙ none_from es (k + 1) (sym (cond-false _ _ _ past) ∙ is))
-      (cases_Bool (has e))
-
-  some_from : (entries : List E) (k n : ℕ) (d : E) → first_place has entries k ≡ Some n
-      → (m : ℕ) × (n ≡ k + m) × (first_with keyed equal q entries ≡ Some (get_or entries m d))
-  some_from [] k n d is = let z : ◌≡◌ {A = ℕ} 0 1 = cc in absurd (omega arith)
-  some_from (e ∷ es) k n d is =
-      ⊎_elim
-      (λ (here : has e ≡ true).
-      let found : Some k ≡ Some n = sym (cond-true _ _ _ here) ∙ is in
-      let at : k ≡ n = cc in
-      (0, omega arith, cond-true _ _ _ here))
-      (λ (past : has e ≡ false).
-      let later = some_from es (k + 1) n d (sym (cond-false _ _ _ past) ∙ is) in
-      (suc later.0, omega (arith, later.1), cond-false _ _ _ past ∙ later.2))
-      (cases_Bool (has e))
-
   pub with_none : (entries : List E) → place_with keyed equal q entries ≡ None → first_with keyed equal q entries ≡ None
-  with_none entries is = none_from entries 0 is
+  with_none entries is = find_placed has entries ∙ ap (option_and_then (slice_get entries)) is
 
   pub with_some : (entries : List E) (n : ℕ) (d : E) → place_with keyed equal q entries ≡ Some n → first_with keyed equal q entries ≡ Some (get_or entries n d)
   with_some entries n d is =
-      let hit = some_from entries 0 n d is in
-      let at : hit.0 ≡ n = omega (arith, hit.1) in
-      hit.2 ∙ ap (λ m. Some (get_or entries m d)) at
+      find_placed has entries ∙ ap (option_and_then (slice_get entries)) is ∙ slice_get-get_or entries n d (first_at has entries n d is).0
 
   -- an entry that is read at that place
   pub read_at : (entries es : List E) (n : ℕ) (r : Option (Bor E)) → es ≡ entries → place_with keyed equal q entries ≡ Some n

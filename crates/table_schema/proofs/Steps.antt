@@ -1,25 +1,9 @@
--- What the checks stand on: a verdict told as a fault or none, and slots that hold nothing.
-use Rattle.std.proofs.Common.{◌≡◌, ℕ, ◌/◌, ◌^◌, min, Bool, true, eqb, List, [], ◌∷◌, length, get_or, replicate, Some, None, Ok, Err, Option, sym, refl, ap, ◌∙◌}
-use Rattle.std.proofs.lemmas.List.{get_or-replicate}
+-- Slots that hold nothing: an index of no key, and as they were when they are emptied again.
+use Rattle.std.proofs.Common.{◌≡◌, ℕ, ◌^◌, Bool, true, eqb, List, [], ◌∷◌, length, replicate, sym, refl, ap, ◌∙◌, subst}
 use Rattle.std.proofs.lemmas.Bool.{and_parts, eqb-true}
-use Rattle.refusal.specs.Firsts.{verdict_of}
-use Rattle.ordered_index.specs.Slots.{limit}
 use Rattle.ordered_index.specs.Sound.{Sound}
 use Rattle.ordered_index.proofs.Rounds.{sound_none}
 use Rattle.table_schema.specs.Verdict.{zeros, empty_index}
-
--- a verdict tells the fault that it stands for
-pub verdict_err : {G : Type 0} (fault : Option G) (f : G) → Err f ≡ verdict_of fault → fault ≡ Some f
-verdict_err None f is = cc
-verdict_err (Some g) f is = cc
-
-pub verdict_ok : {G : Type 0} (fault : Option G) → Ok tt ≡ verdict_of fault → fault ≡ None
-verdict_ok None is = refl
-verdict_ok (Some g) is = cc
-
--- how many keys slots of a known size serve
-pub limit_is : (slots : List ℕ) (size : ℕ) → length slots ≡ size → limit slots ≡ min (size / 2) 4294967295
-limit_is slots size is = ap (λ n. min (n / 2) 4294967295) is
 
 -- slots without a key are all 0
 pub zeros_all : (slots : List ℕ) → zeros slots ≡ true → slots ≡ replicate (length slots) 0
@@ -34,8 +18,7 @@ pub fresh : {K : Type 0} (equal : K → K → Bool) (digest : K → ℕ) (slots 
 fresh equal digest slots size k power all =
     let both = and_parts (eqb (length slots) size) (zeros slots) all in
     let long : length slots ≡ size = eqb-true (length slots) size both.0 in
-    sound_none equal digest slots (k, long ∙ power)
-    (λ i low. ap (λ xs. get_or xs i 0) (zeros_all slots both.1) ∙ get_or-replicate (length slots) i 0 0 low)
+    subst (λ (xs : List ℕ). Sound equal digest [] xs) (sym (zeros_all slots both.1)) (sound_none equal digest (length slots) (k, long ∙ power))
 
 -- emptied again they are as they were
 pub emptied : (slots now : List ℕ) (size n : ℕ) → empty_index size slots ≡ true → n ≡ length slots → now ≡ replicate n 0 → now ≡ slots

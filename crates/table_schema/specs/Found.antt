@@ -1,16 +1,15 @@
 -- What is found by a key: the first entry that has it, and its place, whether by a search from the front or through slots.
-use Rattle.std.specs.Prelude.{◌≡◌, ℕ, Bool, cond, List, [], ◌∷◌, map, Some, None, Option}
-use Rattle.ordered_index.specs.Firsts.{first_place}
+use Rattle.std.specs.Prelude.{◌≡◌, ℕ, Bool, List, map, Option}
+use Rattle.std.specs.List.{find, position_from}
 use Rattle.ordered_index.specs.Probing.{probe_for, found_at}
 
 -- the place of the first entry that has the key
 abbrev pub place_with : {E K : Type 0} → (E → K) → (K → K → Bool) → K → List E → Option ℕ
-place_with keyed equal key entries = first_place (λ e. equal (keyed e) key) entries 0
+place_with keyed equal key entries = position_from (λ e. equal (keyed e) key) 0 entries
 
 -- the first entry that has the key
 abbrev pub first_with : {E K : Type 0} → (E → K) → (K → K → Bool) → K → List E → Option E
-first_with keyed equal key [] = None
-first_with keyed equal key (e ∷ es) = cond (equal (keyed e) key) (Some e) (first_with keyed equal key es)
+first_with keyed equal key entries = find (λ e. equal (keyed e) key) entries
 
 -- for every key, the slots answer with the place of the first entry that has it
 abbrev pub KeysFound : {E K : Type 0} → (E → K) → (K → K → Bool) → (K → ℕ) → List E → List ℕ → Type 0

@@ -1,5 +1,6 @@
 -- The fields as a table schema keeps them, each definition beside its key.
-use Rattle.std.specs.Prelude.{◌≡◌, ℕ, ◌+◌, ◌<◌, true, cond, List, [], ◌∷◌, length, Some, None, Ok, Err, Option, Result, slice_index_or}
+use Rattle.std.specs.Prelude.{◌≡◌, ℕ, ◌+◌, ◌<◌, true, cond, List, map, length, Some, None, Ok, Err, Option, Result, slice_index_or}
+use Rattle.std.specs.List.{enumerate_from}
 use Rattle.ordered_index.specs.Keys.{same_field}
 use Rattle.schema.specs.declared.answers.FieldDefinition.{FieldDefinition}
 use Rattle.schema.specs.declared.answers.FieldLookupError.{FieldLookupError}
@@ -30,8 +31,7 @@ entry_of place row = record { key = row_key row; definition = defined place row.
 
 -- the entries of rows, the first of which stands at place i
 abbrev pub entries_from : ℕ → List FieldRow → List FieldEntry
-entries_from i [] = []
-entries_from i (row ∷ rows) = entry_of (i + 1) row ∷ entries_from (i + 1) rows
+entries_from i rows = map (λ numbered. entry_of (numbered.0 + 1) numbered.1) (enumerate_from i rows)
 
 -- the owner of each field is one of the types
 abbrev pub OwnersKnown : List TypeRow → List FieldEntry → Type 0

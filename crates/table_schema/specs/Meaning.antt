@@ -1,6 +1,6 @@
 -- What rows of types and fields mean as a schema: which types are known, of which kind, with which fields.
 use Rattle.std.specs.Prelude.{ℕ, ◌+◌, Bool, cond, ◌&&◌, List, is_some, Some, None, Ok, Err, Option, Result, ◌==◌, slice_index_or}
-use Rattle.ordered_index.specs.Firsts.{first_place}
+use Rattle.std.specs.List.{position_from}
 use Rattle.schema.specs.declared.answers.OperationType.{OperationType}
 use Rattle.schema.specs.declared.answers.OperationType.TheVariants.{Query, Mutation, Subscription}
 use Rattle.schema.specs.declared.answers.TypeKind.{TypeKind}
@@ -30,7 +30,7 @@ owns t f row = row.owner == t && row.name == f
 
 -- a type is known where a row has its name
 abbrev pub known_type : List TypeRow → ℕ → Bool
-known_type types t = is_some (first_place (named t) types 0)
+known_type types t = is_some (position_from (named t) 0 types)
 
 -- the kind that the row at a place tells
 abbrev pub kind_there : List TypeRow → Option ℕ → Option TypeKind
@@ -39,7 +39,7 @@ kind_there types (Some i) = kind_of_number (slice_index_or types i no_type).kind
 
 -- its kind is the one that its row tells
 abbrev pub kind_of : List TypeRow → ℕ → Option TypeKind
-kind_of types t = kind_there types (first_place (named t) types 0)
+kind_of types t = kind_there types (position_from (named t) 0 types)
 
 -- the field of the row at a place: the definition place is the row's place plus 1
 abbrev pub field_there : List FieldRow → Option ℕ → Result FieldDefinition FieldLookupError
@@ -48,7 +48,7 @@ field_there fields (Some i) = Ok (defined (i + 1) (slice_index_or fields i no_fi
 
 -- a field of a known type is found where a row has its owner and its name
 abbrev pub field_of : List TypeRow → List FieldRow → ℕ → ℕ → Result FieldDefinition FieldLookupError
-field_of types fields t f = cond (known_type types t) (field_there fields (first_place (owns t f) fields 0)) (Err NoSuchType)
+field_of types fields t f = cond (known_type types t) (field_there fields (position_from (owns t f) 0 fields)) (Err NoSuchType)
 
 abbrev pub name_or_none : ℕ → Option ℕ
 name_or_none n = cond (n == 0) None (Some n)

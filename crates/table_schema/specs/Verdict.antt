@@ -1,6 +1,7 @@
 -- Which rows are no schema: each row's own fault, and the first of all.
-use Rattle.std.specs.Prelude.{ℕ, Bool, true, false, cond, ◌&&◌, ◌||◌, List, [], ◌∷◌, length, take, is_some, Some, None, Option, ◌==◌, nat_lt, slice_index_or}
-use Rattle.ordered_index.specs.Firsts.{first_place}
+use Rattle.std.specs.Prelude.{ℕ, Bool, true, false, cond, ◌&&◌, ◌||◌, List, length, take, is_some, Some, None, Option, ◌==◌, nat_lt, slice_get}
+use Rattle.std.specs.Option.{option_and_then}
+use Rattle.std.specs.List.{list_all, position_from}
 use Rattle.refusal.specs.Firsts.{first_fault, or_else}
 use Rattle.schema.specs.declared.answers.TypeKind.{TypeKind}
 use Rattle.schema.specs.declared.answers.TypeKind.TheVariants.{Scalar, Object, Interface, Union, Enum, InputObject}
@@ -11,7 +12,7 @@ use Rattle.table_schema.specs.declared.fault.RowFault.{RowFault}
 use Rattle.table_schema.specs.declared.fault.RowFault.TheVariants.{NameMissing, KindUnknown, Repeated, OwnerUnfit}
 use Rattle.table_schema.specs.declared.fault.SchemaFault.{SchemaFault}
 use Rattle.table_schema.specs.declared.fault.SchemaFault.TheVariants.{OverLimit, SlotsUnfit, InTypes, InFields}
-use Rattle.table_schema.specs.Meaning.{no_type, no_field, owns, known_type, kind_of}
+use Rattle.table_schema.specs.Meaning.{owns, known_type, kind_of}
 
 -- a schema holds 1,024 types and 4,096 fields
 abbrev pub over_limit : List TypeRow → List FieldRow → Bool
@@ -43,21 +44,18 @@ owns_fields (Some InputObject) = false
 abbrev pub field_fault : List TypeRow → List FieldRow → FieldRow → Option RowFault
 field_fault types before row =
     cond (row.owner == 0 || (row.name == 0 || row.inner == 0)) (Some NameMissing)
-    (cond (is_some (first_place (owns row.owner row.name) before 0)) (Some Repeated)
+    (cond (is_some (position_from (owns row.owner row.name) 0 before)) (Some Repeated)
     (cond (owns_fields (kind_of types row.owner)) None (Some OwnerUnfit)))
 
 -- the fault of the row at place i of a table, as it stands after the rows before it
-abbrev pub type_fault_at : List TypeRow → ℕ → Option RowFault
-type_fault_at types i = type_fault (take i types) (slice_index_or types i no_type)
-
-abbrev pub field_fault_at : List TypeRow → List FieldRow → ℕ → Option RowFault
-field_fault_at types fields i = field_fault types (take i fields) (slice_index_or fields i no_field)
+abbrev pub fault_at : {R : Type 0} → (List R → R → Option RowFault) → List R → ℕ → Option RowFault
+fault_at fault rows i = option_and_then (fault (take i rows)) (slice_get rows i)
 
 abbrev pub types_fault : List TypeRow → Option SchemaFault
-types_fault types = first_fault InTypes (type_fault_at types) 0 (length types)
+types_fault types = first_fault InTypes (fault_at type_fault types) 0 (length types)
 
 abbrev pub fields_fault : List TypeRow → List FieldRow → Option SchemaFault
-fields_fault types fields = first_fault InFields (field_fault_at types fields) 0 (length fields)
+fields_fault types fields = first_fault InFields (fault_at (field_fault types) fields) 0 (length fields)
 
 -- types in order, then fields in order
 abbrev pub rows_fault : List TypeRow → List FieldRow → Option SchemaFault
@@ -65,8 +63,7 @@ rows_fault types fields = or_else (types_fault types) (fields_fault types fields
 
 -- whether slots are an empty index of this size
 abbrev pub zeros : List ℕ → Bool
-zeros [] = true
-zeros (s ∷ slots) = s == 0 && zeros slots
+zeros slots = list_all (λ s. s == 0) slots
 
 abbrev pub empty_index : ℕ → List ℕ → Bool
 empty_index size slots = length slots == size && zeros slots

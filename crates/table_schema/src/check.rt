@@ -1,13 +1,16 @@
 // Checks rows and indexes them, in slots that the caller lends: the first fault, or a sound index of both tables.
-ghost use Rattle.std.specs.Prelude.{◌≡◌, ◌<◌, ◌≤◌, [], ◌∷◌, ◌++◌, map, length, is_some, IfOk, MatchResult};
-ghost use Rattle.refusal.specs.Firsts.{verdict_of};
+ghost use Rattle.std.specs.Prelude.{◌≡◌, ℕ, ◌<◌, ◌≤◌, List, Option, [], ◌∷◌, ◌++◌, map, length, is_some, IfOk, MatchResult};
+ghost use Rattle.refusal.specs.Firsts.{verdict_of, first_fault};
 ghost use Rattle.ordered_index.specs.Slots.{limit};
 ghost use Rattle.ordered_index.specs.Sound.{Sound};
 ghost use Rattle.ordered_index.specs.Keys.{same_name, name_hash, same_field, field_hash};
 ghost use Rattle.table_schema.specs.Keys.{type_key, row_key};
 ghost use Rattle.table_schema.specs.Found.{place_with, KeysFound};
-ghost use Rattle.table_schema.specs.Verdict.{type_fault, field_fault, types_fault, fields_fault, rows_fault, empty_index, index_fault, owns_fields, repeated};
+ghost use Rattle.table_schema.specs.Verdict.{type_fault, field_fault, fault_at, rows_fault, empty_index, index_fault, owns_fields, repeated};
 ghost use Rattle.table_schema.specs.Meaning.{kind_of};
+ghost use Rattle.table_schema.specs.declared.fault.RowFault.{RowFault};
+ghost use Rattle.table_schema.specs.declared.fault.SchemaFault.{SchemaFault};
+ghost use Rattle.table_schema.specs.declared.fault.SchemaFault.TheVariants.{InTypes, InFields};
 
 use crate::fault::{RowFault, SchemaFault};
 use crate::rows::{FieldRow, SchemaRows, TypeRow};
@@ -44,36 +47,43 @@ fn enter_new<E: Entry>(before: &[E], slots: &mut [u32], key: &E::Of) -> Result<(
     }
 }
 
-// Enters the type into the index of those before it, unless something is wrong with it.
-fn enter_type(row: TypeRow, before: &[TypeRow], slots: &mut [u32]) -> Result<(), RowFault>
-    requires room { length before.now < limit slots.old }
-    requires sound { Sound same_name name_hash (map type_key before.now) slots.old }
-    ensures fault { result ≡ verdict_of (type_fault before.now row) }
-    ensures sound { IfOk result (λ _. Sound same_name name_hash (map type_key before.now ++ type_key row ∷ []) slots.new) }
-{
-    if row.name == 0 {
-        return Err(RowFault::NameMissing);
-    }
-    if TypeKind::try_from(row.kind).is_err() {
-        return Err(RowFault::KindUnknown);
-    }
-    enter_new(before, slots, &row.name)
+// A row of a schema: it is entered behind the rows before it, unless something is wrong with it. The check of a field
+// looks at the types too; beside a type there is nothing to look at.
+trait SchemaRow<B>: Entry {
+    // What is wrong with a row behind these rows.
+    ghost fault_behind: { B → List Self → Self → Option RowFault };
+
+    // How that is told with the row's place plus 1.
+    ghost told_as: { RowFault → ℕ → SchemaFault };
+
+    fn enter(&self, beside: &B, before: &[Self], slots: &mut [u32]) -> Result<(), RowFault>
+        requires room { length before.now < limit slots.old }
+        requires sound { Sound Self.Of.eq Self.Of.digest (map Self.keyed before.now) slots.old }
+        ensures fault { result ≡ verdict_of (fault_behind beside.now before.now self.now) }
+        ensures sound { IfOk result (λ _. Sound Self.Of.eq Self.Of.digest (map Self.keyed before.now ++ Self.keyed self.now ∷ []) slots.new) };
+
+    fn told(fault: RowFault, row: u32) -> SchemaFault
+        ensures { result ≡ told_as fault row };
 }
 
-// The first fault of the types, with its row; or none, and the slots are an index of them.
-fn index_types(types: &[TypeRow], slots: &mut [u32]) -> Result<(), SchemaFault>
-    requires few { length types.now ≤ 1024 }
-    requires size { length slots.old ≡ 2048 }
-    requires fresh { Sound same_name name_hash [] slots.old }
-    ensures fault { result ≡ verdict_of (types_fault types.now) }
-    ensures sound { IfOk result (λ _. Sound same_name name_hash (map type_key types.now) slots.new) }
-{
-    for (i, row) in types.iter().enumerate() {
-        if let Err(fault) = enter_type(*row, &types[..i], slots) {
-            return Err(SchemaFault::InTypes(fault, (i + 1) as u32));
+impl SchemaRow<()> for TypeRow {
+    ghost fault_behind = { λ _. type_fault };
+
+    ghost told_as = { InTypes };
+
+    fn enter(&self, _beside: &(), before: &[TypeRow], slots: &mut [u32]) -> Result<(), RowFault> {
+        if self.name == 0 {
+            return Err(RowFault::NameMissing);
         }
+        if TypeKind::try_from(self.kind).is_err() {
+            return Err(RowFault::KindUnknown);
+        }
+        enter_new(before, slots, &self.name)
     }
-    Ok(())
+
+    fn told(fault: RowFault, row: u32) -> SchemaFault {
+        SchemaFault::InTypes(fault, row)
+    }
 }
 
 // Whether types of this kind own fields.
@@ -103,44 +113,49 @@ impl FoundTypes<'_> {
     }
 }
 
-// Enters the field into the index of those before it, unless something is wrong with it.
-fn enter_field(
-    row: FieldRow,
-    before: &[FieldRow],
-    types: &FoundTypes<'_>,
-    slots: &mut [u32],
-) -> Result<(), RowFault>
-    requires room { length before.now < limit slots.old }
-    requires sound { Sound same_field field_hash (map row_key before.now) slots.old }
-    ensures fault { result ≡ verdict_of (field_fault types.now.rows.now before.now row) }
-    ensures sound { IfOk result (λ _. Sound same_field field_hash (map row_key before.now ++ row_key row ∷ []) slots.new) }
-{
-    if row.owner == 0 || row.name == 0 || row.inner == 0 {
-        return Err(RowFault::NameMissing);
+impl SchemaRow<FoundTypes<'_>> for FieldRow {
+    ghost fault_behind = { λ types. field_fault types.rows.now };
+
+    ghost told_as = { InFields };
+
+    fn enter(
+        &self,
+        types: &FoundTypes<'_>,
+        before: &[FieldRow],
+        slots: &mut [u32],
+    ) -> Result<(), RowFault> {
+        if self.owner == 0 || self.name == 0 || self.inner == 0 {
+            return Err(RowFault::NameMissing);
+        }
+        enter_new(before, slots, &self.key())?;
+        if types.is_owner(self.owner) {
+            Ok(())
+        } else {
+            Err(RowFault::OwnerUnfit)
+        }
     }
-    enter_new(before, slots, &row.key())?;
-    if types.is_owner(row.owner) {
-        Ok(())
-    } else {
-        Err(RowFault::OwnerUnfit)
+
+    fn told(fault: RowFault, row: u32) -> SchemaFault
+        ensures { result ≡ InFields fault row }
+    {
+        SchemaFault::InFields(fault, row)
     }
 }
 
-// The first fault of the fields, with its row; or none, and the slots are an index of them.
-fn index_fields(
-    fields: &[FieldRow],
-    types: &FoundTypes<'_>,
+// The first fault of the rows, told with its row; or none, and the slots are an index of them.
+fn index_all<B, R: SchemaRow<B>>(
+    rows: &[R],
+    beside: &B,
     slots: &mut [u32],
 ) -> Result<(), SchemaFault>
-    requires few { length fields.now ≤ 4096 }
-    requires size { length slots.old ≡ 8192 }
-    requires fresh { Sound same_field field_hash [] slots.old }
-    ensures fault { result ≡ verdict_of (fields_fault types.now.rows.now fields.now) }
-    ensures sound { IfOk result (λ _. Sound same_field field_hash (map row_key fields.now) slots.new) }
+    requires few { length rows.now ≤ limit slots.old }
+    requires fresh { Sound R.Of.eq R.Of.digest [] slots.old }
+    ensures fault { result ≡ verdict_of (first_fault R.told_as (fault_at (R.fault_behind beside.now) rows.now) 0 (length rows.now)) }
+    ensures sound { IfOk result (λ _. Sound R.Of.eq R.Of.digest (map R.keyed rows.now) slots.new) }
 {
-    for (i, row) in fields.iter().enumerate() {
-        if let Err(fault) = enter_field(*row, &fields[..i], types, slots) {
-            return Err(SchemaFault::InFields(fault, (i + 1) as u32));
+    for (i, row) in rows.iter().enumerate() {
+        if let Err(fault) = row.enter(beside, &rows[..i], slots) {
+            return Err(R::told(fault, (i + 1) as u32));
         }
     }
     Ok(())
@@ -148,26 +163,23 @@ fn index_fields(
 
 // The first fault of all rows; or none, and both slots are an index of their rows.
 fn index_tables(
-    types: &[TypeRow],
-    fields: &[FieldRow],
+    rows: &SchemaRows<'_>,
     type_slots: &mut [u32],
     field_slots: &mut [u32],
 ) -> Result<(), SchemaFault>
-    requires few_types { length types.now ≤ 1024 }
-    requires few_fields { length fields.now ≤ 4096 }
-    requires type_size { length type_slots.old ≡ 2048 }
-    requires field_size { length field_slots.old ≡ 8192 }
+    requires few_types { length rows.now.types.now ≤ limit type_slots.old }
+    requires few_fields { length rows.now.fields.now ≤ limit field_slots.old }
     requires fresh_types { Sound same_name name_hash [] type_slots.old }
     requires fresh_fields { Sound same_field field_hash [] field_slots.old }
-    ensures fault { result ≡ verdict_of (rows_fault types.now fields.now) }
-    ensures sound { IfOk result (λ _. Sound same_name name_hash (map type_key types.now) type_slots.new × Sound same_field field_hash (map row_key fields.now) field_slots.new) }
+    ensures fault { result ≡ verdict_of (rows_fault rows.now.types.now rows.now.fields.now) }
+    ensures sound { IfOk result (λ _. Sound same_name name_hash (map type_key rows.now.types.now) type_slots.new × Sound same_field field_hash (map row_key rows.now.fields.now) field_slots.new) }
 {
-    index_types(types, type_slots)?;
+    index_all(rows.types, &(), type_slots)?;
     let types = FoundTypes {
-        rows: types,
+        rows: rows.types,
         slots: type_slots,
     };
-    index_fields(fields, &types, field_slots)
+    index_all(rows.fields, &types, field_slots)
 }
 
 /// Checks the rows of a schema and indexes them in the slots, which are lent empty: 2,048 for the types and 8,192 for
@@ -186,7 +198,7 @@ pub fn index_rows(
     if !is_empty_index(type_slots, TYPE_SLOTS) || !is_empty_index(field_slots, FIELD_SLOTS) {
         return Err(SchemaFault::SlotsUnfit);
     }
-    let verdict = index_tables(rows.types, rows.fields, type_slots, field_slots);
+    let verdict = index_tables(rows, type_slots, field_slots);
     if verdict.is_err() {
         empty::<TypeRow>(type_slots);
         empty::<FieldRow>(field_slots);

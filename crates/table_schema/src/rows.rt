@@ -22,7 +22,7 @@ pub struct FieldRow {
 }
 
 /// The names of the root types, 0 for none.
-#[derive(Clone, Copy, PartialEq, Eq, Debug)]
+#[derive(Clone, Copy, PartialEq, Eq, Default, Debug)]
 pub struct RootTypes {
     pub query: Name,
     pub mutation: Name,

@@ -4,7 +4,7 @@ use crate::problems::Problem;
 use crate::word_list::Words;
 use document::{DefinitionRow, SelectionRow};
 use schema::{Name, OperationType, Question};
-use table_schema::{FieldRow, TypeRow};
+use table_schema::{FieldRow, RootTypes, TypeRow};
 
 /// What a line says.
 #[derive(Clone, Copy)]
@@ -45,14 +45,6 @@ pub struct TableHead {
     pub types: u32,
     pub fields: u32,
     pub roots: RootTypes,
-}
-
-/// The names of a table's root types, 0 for none.
-#[derive(Clone, Copy, PartialEq, Eq, Default, Debug)]
-pub struct RootTypes {
-    pub query: Name,
-    pub mutation: Name,
-    pub subscription: Name,
 }
 
 /// Whether a document is read strictly, and how many rows of its two tables follow.

@@ -24,17 +24,16 @@ fn field_entries(heap: Global, rows: &[FieldRow]) -> Result<Vec<FieldEntry>, All
     requires { length rows.now ≤ 4096 }
     ensures { IfOk result (λ v. v.items ≡ entries_from 0 rows.now) }
 {
-    let mut entries = Vec::with_capacity(heap, rows.len())?;
-    for (i, row) in rows.iter().enumerate() {
-        entries.push(FieldEntry {
+    rows.iter()
+        .enumerate()
+        .map(|(i, row)| FieldEntry {
             key: row.key(),
             definition: FieldDefinition {
                 place: (i + 1) as u32,
                 inner: row.inner,
             },
-        })?;
-    }
-    Ok(entries)
+        })
+        .collect(heap)
 }
 
 impl TableSchema {

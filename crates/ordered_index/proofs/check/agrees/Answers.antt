@@ -4,7 +4,7 @@ use Rattle.std.proofs.lemmas.Bool.{false≢true, eqb-true, leb-true}
 use Rattle.std.specs.Int.{IsPowerOfTwo}
 use Rattle.ordered_index.specs.Slots.{limit, used}
 use Rattle.ordered_index.proofs.Places.{met_sound, sound_met}
-use Rattle.ordered_index.proofs.Enters.{found_met, met_found}
+use Rattle.ordered_index.proofs.Enters.{found_met, met_found, each_placed, all_placed}
 use Rattle.ordered_index.proofs.check.agrees.Goals as goal
 use Rattle.ordered_index.proofs.check.agrees.Goals.{then-power_of_two, else-power_of_two, then-entries-limit_of, else-entries-limit_of, then-all_within, else-all_within}
 
@@ -33,6 +33,6 @@ returns-then-count_used-entries g c =
       | else-power_of_two w ↦ absurd (false≢true (sym w.if-power_of_two.false ∙ sym w.value-is ∙ ranged.0))
     ] in (
       λ all. met_sound equal digest laws keys slots sized.0 (omega (arith, sized.1)) (λ s. omega (arith, ranged.1 s)) filled.1
-          (λ n x low. found_met equal digest keys slots (get_or keys n x) n (c.each_found.ensures.0 all n x low)),
-      λ sound. c.each_found.ensures.1 (λ n x low. met_found equal digest laws keys slots (get_or keys n x) n (sound_met equal digest laws keys slots sound n x low)),
+          (λ n x low. found_met equal digest keys slots (get_or keys n x) n (each_placed g.E.Entry.keyed equal digest entries slots (sym c.each_found.ensures ∙ all) n x low)),
+      λ sound. c.each_found.ensures ∙ all_placed g.E.Entry.keyed equal digest entries slots (λ n x low. met_found equal digest laws keys slots (get_or keys n x) n (sound_met equal digest laws keys slots sound n x low)),
     )

@@ -2,7 +2,7 @@ use Rattle.std.proofs.Common.{◌≡◌, ℕ, ◌+◌, ◌-◌, ◌<◌, map, le
 use Rattle.ordered_index.specs.Probing.{names, probe}
 use Rattle.ordered_index.proofs.Probes.{probe_found, probe_next, names_read, names_none}
 use Rattle.ordered_index.proofs.probe.probe.Goals as goal
-use Rattle.ordered_index.proofs.probe.probe.Goals.{then-held-entries+else-eq, else-held-entries}
+use Rattle.ordered_index.proofs.probe.probe.Goals.{else-held-entries-via-then-held-entries+else-eq, else-held-entries-via-else-held-entries}
 
 pub returns-then-eq : goal.returns-then-eq
 returns-then-eq g c =
@@ -29,11 +29,11 @@ loop-step-preserved g c =
     let some-slot : 0 < length slots = omega arith in
     let next = c.next_slot-at.ensures in
     let other : names equal keys q (get_or slots at 0) ≡ _ =
-    elim c.if-held-entries.branch [
-      | then-held-entries+else-eq w ↦
+    elim c.else-held-entries.branch [
+      | else-held-entries-via-then-held-entries+else-eq w ↦
           names_read g.E.Entry.keyed equal entries q (get_or slots at 0) w.index-entries-held.result _ c.if-held-eq0.false w.if-held-entries.true w.index-entries-held.is
           (sym w.if-eq.false ∙ w.eq.ensures ∙ ap (λ k. equal k q) w.key.ensures)
-      | else-held-entries w ↦ names_none g.E.Entry.keyed equal entries q (get_or slots at 0) w.if-held-entries.false
+      | else-held-entries-via-else-held-entries w ↦ names_none g.E.Entry.keyed equal entries q (get_or slots at 0) w.if-held-entries.false
     ] in
     let goes = probe_next equal keys slots q at (length slots - step) (length slots - (step + 1)) (omega arith) c.if-held-eq0.false other in (
       subst (λ (n : ℕ). n < length slots) (sym next) (mod-lt (at + 1) some-slot),

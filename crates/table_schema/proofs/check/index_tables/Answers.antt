@@ -6,5 +6,5 @@ use Rattle.table_schema.proofs.check.index_tables.Goals as goal
 
 pub invariant_of-types : goal.invariant_of-types
 invariant_of-types c = record {
-  found = finds_all type_key same_name name_hash name_lawful c.args.types.now c.index_types.new.slots c.in_ok-index_types.ensures.sound;
+  found = finds_all type_key same_name name_hash name_lawful c.args.rows.now.types.now c.index_all.new.slots c.in_ok-index_all.ensures.sound;
 }
