@@ -24,7 +24,7 @@ use Rattle.document.proofs.Steps.{Placed, placed}
 
 in_rows_none : (m : Option Misfit) → in_rows m ≡ None → m ≡ None
 in_rows_none None is = refl
-in_rows_none (Some m) is = let z : ◌≡◌ {A = ℕ} 0 1 = cc in absurd (omega arith)
+in_rows_none (Some m) is = grind arith
 
 off_under : (a b : Bool) → (a ≡ true → b ≡ true) → (a && not b) ≡ false
 off_under true b holds = not_from_true b (holds refl)
@@ -125,13 +125,13 @@ module _ (rows : List SelectionRow) where
       )
 
 both_fine : (a b : Bool) → cond a (Some TooManyDefinitions) (cond b (Some TooManyRows) None) ≡ None → (a ≡ false) × (b ≡ false)
-both_fine true b is = let z : ◌≡◌ {A = ℕ} 0 1 = cc in absurd (omega arith)
-both_fine false true is = let z : ◌≡◌ {A = ℕ} 0 1 = cc in absurd (omega arith)
+both_fine true b is = grind arith
+both_fine false true is = grind arith
 both_fine false false is = (refl, refl)
 
 no_orphans : (ds : List DefinitionRow) (rows : List SelectionRow) → orphan_fault ds rows ≡ None → is_nil ds ≡ true → 0 ≡ length rows
 no_orphans [] [] fine is = refl
-no_orphans [] (r ∷ rows) fine is = let z : ◌≡◌ {A = ℕ} 0 1 = cc in absurd (omega arith)
+no_orphans [] (r ∷ rows) fine is = grind arith
 no_orphans (d ∷ ds) rows fine is = absurd (false≢true is)
 
 -- tables without a fault are a document
@@ -175,8 +175,8 @@ same_forest s f g same sizes =
 -- two documents with one layout are the same
 unique_from : (s : ℕ) (xs ys : List Definition) → definition_rows s xs ≡ definition_rows s ys → selection_rows s xs ≡ selection_rows s ys → xs ≡ ys
 unique_from s [] [] heads rows = refl
-unique_from s [] (y ∷ ys) heads rows = let z : ◌≡◌ {A = ℕ} 0 1 = cc in absurd (omega arith)
-unique_from s (x ∷ xs) [] heads rows = let z : ◌≡◌ {A = ℕ} 0 1 = cc in absurd (omega arith)
+unique_from s [] (y ∷ ys) heads rows = grind arith
+unique_from s (x ∷ xs) [] heads rows = grind arith
 unique_from s (x ∷ xs) (y ∷ ys) heads rows =
     let first : definition_row x.head s (s + size x.selected) ≡ definition_row y.head s (s + size y.selected) = cc in
     let others : definition_rows (s + size x.selected) xs ≡ definition_rows (s + size y.selected) ys = cc in

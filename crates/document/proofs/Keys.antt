@@ -42,7 +42,7 @@ pub record Stepped (rows : List SelectionRow) (set : SelectionSet) (g : Forest S
 
 stepped_at : (rows : List SelectionRow) (set : SelectionSet) (g : Forest Selection) (step : SelectionStep) → step ≡ step_at (get_or rows set.next no_row) set.next set.end
     → Follows rows set g (Some step) → Stepped rows set g step
-stepped_at rows set none step at follows = let z : ◌≡◌ {A = ℕ} 0 1 = cc in absurd (omega arith)
+stepped_at rows set none step at follows = grind arith
 stepped_at rows set (row s below after) step at follows =
     record {
       selection = s;
@@ -58,7 +58,7 @@ stepped_at rows set (row s below after) step at follows =
     }
 
 some_step : (b : Bool) (x y : SelectionStep) → Some x ≡ cond b None (Some y) → x ≡ y
-some_step true x y is = let z : ◌≡◌ {A = ℕ} 0 1 = cc in absurd (omega arith)
+some_step true x y is = grind arith
 some_step false x y is = cc
 
 pub stepped : (rows : List SelectionRow) (set : SelectionSet) (g : Forest Selection) (step : SelectionStep) → Holds rows set g → Some step ≡ next_of rows set → Stepped rows set g step

@@ -76,8 +76,8 @@ pub record Placed (d : DefinitionRow) (start : ℕ) (last : Bool) (rows : ℕ) :
   pub bare : is_type_system (head_of d) ≡ true → d.first ≡ d.end
 
 no_some : (a b : Bool) → cond a (Some NameMissing) (cond b (Some Broken) None) ≡ None → (a ≡ false) × (b ≡ false)
-no_some true b is = let z : ◌≡◌ {A = ℕ} 0 1 = cc in absurd (omega arith)
-no_some false true is = let z : ◌≡◌ {A = ℕ} 0 1 = cc in absurd (omega arith)
+no_some true b is = grind arith
+no_some false true is = grind arith
 no_some false false is = (refl, refl)
 
 -- where a test comes out false that is to hold under a premise, it holds under it

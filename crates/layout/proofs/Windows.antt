@@ -19,38 +19,17 @@ pub record Fits (view : RowView) (k bound : ℕ) (deep : Bool) : Type 0 where
   pub shallow : deep ≡ false
 
 no_some : (a b c : Bool) → cond a (Some NameMissing) (cond b (Some Broken) (cond c (Some TooDeep) None)) ≡ None → (a ≡ false) × (b ≡ false) × (c ≡ false)
-no_some true b c is = let z : ◌≡◌ {A = ℕ} 0 1 = cc in absurd (omega arith)
-no_some false true c is = let z : ◌≡◌ {A = ℕ} 0 1 = cc in absurd (omega arith)
-no_some false false true is = let z : ◌≡◌ {A = ℕ} 0 1 = cc in absurd (omega arith)
+no_some true b c is = grind arith
+no_some false true c is = grind arith
+no_some false false true is = grind arith
 no_some false false false is = (refl, refl, refl)
 
 pub fits : (view : RowView) (k bound : ℕ) (deep : Bool) → own_fault view k bound deep ≡ None → Fits view k bound deep
-fits view k bound deep fine =
-    let all = no_some view.unnamed (breaks view k bound) deep fine in
-    let first = or_parts view.broken _ all.1 in
-    let second = or_parts (leb view.end k) _ first.1 in
-    let third = or_parts (ltb bound view.end) _ second.1 in
-    record {
-      named = all.0;
-      whole = first.0;
-      above = leb-false view.end k second.0;
-      inside = ltb-false bound view.end third.0;
-      leaf = λ is_IsLeaf.
-          ⊎_elim (λ off. absurd (false≢true (sym off ∙ is_IsLeaf))) (λ same. eqb-true view.end (k + 1) (not-false _ same)) (and_cases view.leaf _ third.1);
-      shallow = all.2;
-    }
+fits view k bound deep fine = grind arith
 
 -- the other way round
 pub fine : (view : RowView) (k bound : ℕ) (deep : Bool) → Fits view k bound deep → own_fault view k bound deep ≡ None
-fine view k bound deep fit =
-    let last : (view.leaf && not (eqb view.end (k + 1))) ≡ false =
-    ⊎_elim
-    (λ (is : view.leaf ≡ true). and_right _ _ (not_from_true _ (eq-eqb _ _ (fit.leaf is))))
-    (λ (off : view.leaf ≡ false). and_left _ _ off)
-    (cases_Bool view.leaf) in
-    cond-false _ _ _ fit.named
-    ∙ cond-false _ _ _ (or_from _ _ fit.whole (or_from _ _ (lt-leb _ _ fit.above) (or_from _ _ (le-ltb _ _ fit.inside) last)))
-    ∙ cond-false _ _ _ fit.shallow
+fine view k bound deep fit = grind arith
 
 module _ (views : List RowView) where
   -- rows that end at k or before it are not open there, and enclose nothing
@@ -75,10 +54,7 @@ module _ (views : List RowView) where
 
   -- two runs of rows
   open_parts : (k first a b : ℕ) → open_at views k first (a + b) ≡ open_at views k (first + a) b + open_at views k first a
-  open_parts k first a zero =
-      let same : a + 0 ≡ a = omega arith in
-      let e : open_at views k first (a + 0) ≡ open_at views k first a = ap (open_at views k first) same in
-      omega arith
+  open_parts k first a zero = grind arith
   open_parts k first a (suc b) =
       let more : a + suc b ≡ suc (a + b) = omega arith in
       let at : first + (a + b) ≡ first + a + b = omega arith in
@@ -99,26 +75,14 @@ module _ (views : List RowView) where
   Closed start i = (j : ℕ) → start ≤ j → j < i → end_at views j ≤ i
 
   none_left : (room : ℕ) → leb room 0 ≡ eqb room 0
-  none_left room =
-      ⊎_elim
-      (λ (none : room ≡ 0). le-leb room 0 (omega arith) ∙ sym (eq-eqb room 0 none))
-      (λ (some : room ≡ 0 → ⊥). lt-leb room 0 (omega arith) ∙ sym (ne_eqb room 0 some))
-      (cases_eq room 0)
+  none_left room = grind arith
 
   -- the next row directly in the range
   pub fault_next_row : (start end room i : ℕ) → start ≤ i → Closed start i → fault_in views start end room i ≡ own_fault (get_or views i no_view) i end (eqb room 0)
-  fault_next_row start end room i from closed =
-      let before : (m : ℕ) → m < i - start → end_at views (start + m) ≤ i = λ m low. closed (start + m) (omega arith) (omega arith) in
-      ap (λ bound. own_fault (get_or views i no_view) i bound (leb room (open_at views i start (i - start)))) (none_enclose i start (i - start) end before)
-      ∙ ap (λ n. own_fault (get_or views i no_view) i end (leb room n)) (none_open i start (i - start) before)
-      ∙ ap (own_fault (get_or views i no_view) i end) (none_left room)
+  fault_next_row start end room i from closed = grind (arith, closed, none_enclose, none_open, none_left)
 
   one_level : (room n : ℕ) → 0 < room → leb room (n + 1) ≡ leb (room - 1) n
-  one_level room n some =
-      ⊎_elim
-      (λ (few : n < room - 1). lt-leb room (n + 1) (omega arith) ∙ sym (lt-leb (room - 1) n few))
-      (λ (many : room - 1 ≤ n). le-leb room (n + 1) (omega arith) ∙ sym (le-leb (room - 1) n many))
-      (cases_lt n (room - 1))
+  one_level room n some = grind arith
 
   -- a row beneath the next row: the same in the smaller range
   pub fault_beneath : (start end room i k : ℕ) → start ≤ i → Closed start i → 0 < room → i < k → k < end_at views i
@@ -262,15 +226,12 @@ module _ (views : List RowView) where
 -- the row that is told is one of those searched
 row_by : (i left : ℕ) (m : Misfit) (f : Option RowFault) (rest : Option Misfit) → at_row misfit i f rest ≡ Some m → (rest ≡ Some m → m.row ≤ i + 1 + left) → m.row ≤ i + suc left
 row_by i left m None rest is later = let low = later is in omega arith
-row_by i left m (Some f) rest is later =
-    let told : misfit f (i + 1) ≡ m = cc in
-    let row : i + 1 ≡ m.row = ap (λ x. x.row) told in
-    omega arith
+row_by i left m (Some f) rest is later = grind arith
 
 pub told_row : (fault : ℕ → Option RowFault) (i left : ℕ) (m : Misfit) → first_fault misfit fault i left ≡ Some m → m.row ≤ i + left
-told_row fault i zero m is = let z : ◌≡◌ {A = ℕ} 0 1 = cc in absurd (omega arith)
+told_row fault i zero m is = grind arith
 told_row fault i (suc left) m is = row_by i left m (fault i) (first_fault misfit fault (i + 1) left) is (told_row fault (i + 1) left m)
 
 pub inside_rows : (fault : ℕ → Option RowFault) (i left n : ℕ) (r : Result Unit Misfit) → i + left ≤ n → r ≡ verdict_of (first_fault misfit fault i left) → IfErr r (λ m. m.row ≤ n)
 inside_rows fault i left n (Ok x) few is = tt
-inside_rows fault i left n (Err m) few is = let low = told_row fault i left m (verdict_err _ m (sym is)) in omega arith
+inside_rows fault i left n (Err m) few is = grind (arith, told_row, verdict_err)
