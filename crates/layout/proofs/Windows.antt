@@ -35,22 +35,16 @@ module _ (views : List RowView) where
   -- rows that end at k or before it are not open there, and enclose nothing
   none_open : (k first n : ℕ) → ((m : ℕ) → m < n → end_at views (first + m) ≤ k) → open_at views k first n ≡ 0
   none_open k first zero closed = refl
-  none_open k first (suc n) closed =
-      let here = le-ltb k (end_at views (first + n)) (closed n (omega arith)) in
-      let rest = none_open k first n (λ m low. closed m (omega arith)) in
-      ap (λ b. cond b 1 0 + open_at views k first n) here ∙ omega arith
+  none_open k first (suc n) closed = grind (arith, closed n, none_open k first n (λ m low. closed m (omega arith)))
 
   none_enclose : (k first n end : ℕ) → ((m : ℕ) → m < n → end_at views (first + m) ≤ k) → enclosing_end views k first n end ≡ end
   none_enclose k first zero end closed = refl
-  none_enclose k first (suc n) end closed =
-      cond-false _ _ _ (le-ltb k (end_at views (first + n)) (closed n (omega arith))) ∙ none_enclose k first n end (λ m low. closed m (omega arith))
+  none_enclose k first (suc n) end closed = grind (arith, closed n, none_enclose k first n end (λ m low. closed m (omega arith)))
 
   -- what encloses a row ends where the range ends, or before
   enclosed : (k first n end : ℕ) → ((m : ℕ) → m < n → end_at views (first + m) ≤ end) → enclosing_end views k first n end ≤ end
   enclosed k first zero end within = omega arith
-  enclosed k first (suc n) end within =
-      cond_both (ltb k (end_at views (first + n))) (end_at views (first + n)) (enclosing_end views k first n end) (λ x. x ≤ end)
-      (λ _. within n (omega arith)) (λ _. enclosed k first n end (λ m low. within m (omega arith)))
+  enclosed k first (suc n) end within = grind (arith, within n, enclosed k first n end (λ m low. within m (omega arith)))
 
   -- two runs of rows
   open_parts : (k first a b : ℕ) → open_at views k first (a + b) ≡ open_at views k (first + a) b + open_at views k first a
@@ -58,17 +52,14 @@ module _ (views : List RowView) where
   open_parts k first a (suc b) =
       let more : a + suc b ≡ suc (a + b) = omega arith in
       let at : first + (a + b) ≡ first + a + b = omega arith in
-      let rest = open_parts k first a b in
-      ap (open_at views k first) more ∙ ap (λ j. cond (ltb k (end_at views j)) 1 0 + open_at views k first (a + b)) at ∙ omega arith
+      rw (more, at) (grind (arith, open_parts k first a b))
 
   enclose_parts : (k first a b end : ℕ) → enclosing_end views k first (a + b) end ≡ enclosing_end views k (first + a) b (enclosing_end views k first a end)
   enclose_parts k first a zero end = ap (λ n. enclosing_end views k first n end) (omega arith)
   enclose_parts k first a (suc b) end =
       let more : a + suc b ≡ suc (a + b) = omega arith in
       let at : first + (a + b) ≡ first + a + b = omega arith in
-      ap (λ n. enclosing_end views k first n end) more
-      ∙ ap (λ j. cond (ltb k (end_at views j)) (end_at views j) (enclosing_end views k first (a + b) end)) at
-      ∙ ap (λ x. cond (ltb k (end_at views (first + a + b))) (end_at views (first + a + b)) x) (enclose_parts k first a b end)
+      rw (more, at, enclose_parts k first a b end) refl
 
   -- all rows from `start` up to i end there or before
   abbrev pub Closed : ℕ → ℕ → Type 0
@@ -133,11 +124,8 @@ module _ (views : List RowView) where
       let before = within first end room n (λ j less. fine j (omega arith)) in
       ⊎_elim
       (λ (last : m ≡ n).
-      let count : first + n - first ≡ n = omega arith in
       let fit = fits (get_or views (first + n) no_view) (first + n) _ _ (fine n (omega arith)) in
-      let bound = enclosed (first + n) first (first + n - first) end (λ j less. before j (omega arith)) in
-      let here : end_at views (first + n) ≤ end = omega (arith, fit.inside, bound) in
-      subst (λ (j : ℕ). end_at views (first + j) ≤ end) (sym last) here)
+      grind (arith, fit.inside, enclosed (first + n) first (first + n - first) end (λ j less. before j (omega arith))))
       (λ (other : m ≡ n → ⊥). before m (omega arith))
       (cases_eq m n)
 
@@ -230,7 +218,7 @@ row_by i left m (Some f) rest is later = grind arith
 
 pub told_row : (fault : ℕ → Option RowFault) (i left : ℕ) (m : Misfit) → first_fault misfit fault i left ≡ Some m → m.row ≤ i + left
 told_row fault i zero m is = grind arith
-told_row fault i (suc left) m is = row_by i left m (fault i) (first_fault misfit fault (i + 1) left) is (told_row fault (i + 1) left m)
+told_row fault i (suc left) m is = grind (arith, row_by, told_row fault (i + 1) left m)
 
 pub inside_rows : (fault : ℕ → Option RowFault) (i left n : ℕ) (r : Result Unit Misfit) → i + left ≤ n → r ≡ verdict_of (first_fault misfit fault i left) → IfErr r (λ m. m.row ≤ n)
 inside_rows fault i left n (Ok x) few is = tt
