@@ -85,37 +85,25 @@ module _ (views : List RowView) where
       let at : start + suc a ≡ i + 1 = omega arith in
       let row : start + a ≡ i = omega arith in
       let before : (m : ℕ) → m < a → end_at views (start + m) ≤ k = λ m less. let e = closed (start + m) (omega arith) (omega arith) in omega arith in
-      let opens : ltb k (end_at views (start + a)) ≡ true = ap (λ j. ltb k (end_at views j)) row ∙ lt-ltb k (end_at views i) high in
-      let bound : enclosing_end views k start (k - start) end ≡ enclosing_end views k (i + 1) b (end_at views i) =
-      ap (λ n. enclosing_end views k start n end) gap ∙ enclose_parts k start (suc a) b end
-      ∙ ap (λ j. enclosing_end views k j b (enclosing_end views k start (suc a) end)) at
-      ∙ ap (enclosing_end views k (i + 1) b) (cond-true _ _ _ opens ∙ ap (end_at views) row) in
-      let first : open_at views k start (suc a) ≡ 1 =
-      ap (λ t. cond t 1 0 + open_at views k start a) opens ∙ ap (λ n. 1 + n) (none_open k start a before) in
-      let deep : open_at views k start (k - start) ≡ open_at views k (i + 1) b + 1 =
-      ap (open_at views k start) gap ∙ open_parts k start (suc a) b ∙ ap (λ j. open_at views k j b + open_at views k start (suc a)) at
-      ∙ ap (λ n. open_at views k (i + 1) b + n) first in
-      ap (λ x. own_fault (get_or views k no_view) k x (leb room (open_at views k start (k - start)))) bound
-      ∙ ap (λ n. own_fault (get_or views k no_view) k (enclosing_end views k (i + 1) b (end_at views i)) (leb room n)) deep
-      ∙ ap (own_fault (get_or views k no_view) k (enclosing_end views k (i + 1) b (end_at views i))) (one_level room (open_at views k (i + 1) b) some)
+      let opens : ltb k (end_at views i) ≡ true = lt-ltb k (end_at views i) high in
+      let levels = one_level room (open_at views k (i + 1) b) some in
+      let none = none_open k start a before in
+      let bound = enclose_parts k start (suc a) b end in
+      let deep = open_parts k start (suc a) b in
+      grind arith
 
   -- a row behind closed rows: the same in the range that begins there
   pub fault_behind : (start end room i k : ℕ) → start ≤ i → Closed start i → i ≤ k → fault_in views start end room k ≡ fault_in views i end room k
   fault_behind start end room i k from closed past =
       let a = i - start in
-      let b = k - i in
-      let gap : k - start ≡ a + b = omega arith in
+      let gap : k - start ≡ a + (k - i) = omega arith in
       let at : start + a ≡ i = omega arith in
       let before : (m : ℕ) → m < a → end_at views (start + m) ≤ k = λ m less. let e = closed (start + m) (omega arith) (omega arith) in omega arith in
-      let bound : enclosing_end views k start (k - start) end ≡ enclosing_end views k i b end =
-      ap (λ n. enclosing_end views k start n end) gap ∙ enclose_parts k start a b end
-      ∙ ap (λ j. enclosing_end views k j b (enclosing_end views k start a end)) at
-      ∙ ap (enclosing_end views k i b) (none_enclose k start a end before) in
+      let bound = enclose_parts k start a (k - i) end in
+      let outer = none_enclose k start a end before in
+      let deep = open_parts k start a (k - i) in
       let none = none_open k start a before in
-      let deep : open_at views k start (k - start) ≡ open_at views k i b =
-      ap (open_at views k start) gap ∙ open_parts k start a b ∙ ap (λ j. open_at views k j b + open_at views k start a) at ∙ omega arith in
-      ap (λ x. own_fault (get_or views k no_view) k x (leb room (open_at views k start (k - start)))) bound
-      ∙ ap (λ n. own_fault (get_or views k no_view) k (enclosing_end views k i b end) (leb room n)) deep
+      grind arith
 
   -- rows of a range that fit end within it
   pub within : (first end room n : ℕ) → ((m : ℕ) → m < n → fault_in views first end room (first + m) ≡ None) → (m : ℕ) → m < n → end_at views (first + m) ≤ end
@@ -139,13 +127,11 @@ module _ (views : List RowView) where
       let fault = fault_in views start end room in
       let gap : end - (i + 1) ≡ (next - (i + 1)) + (end - next) = omega arith in
       let at : i + 1 + (next - (i + 1)) ≡ next = omega arith in
-      fault_next misfit fault i (end - i) (end - (i + 1)) (omega arith) fine
-      ∙ ap (first_fault misfit fault (i + 1)) gap
-      ∙ first_parts misfit fault (i + 1) (next - (i + 1)) (end - next)
-      ∙ ap (λ j. or_else (first_fault misfit fault (i + 1) (next - (i + 1))) (first_fault misfit fault j (end - next))) at
-      ∙ ap (λ x. or_else x (first_fault misfit fault next (end - next)))
-      (first_same misfit fault (fault_in views (i + 1) next (room - 1)) (i + 1) (next - (i + 1))
-      (λ m less. fault_beneath start end room i (i + 1 + m) from closed some (omega arith) (omega arith)))
+      let here = fault_next misfit fault i (end - i) (end - (i + 1)) (omega arith) fine in
+      let parts = first_parts misfit fault (i + 1) (next - (i + 1)) (end - next) in
+      let beneath = first_same misfit fault (fault_in views (i + 1) next (room - 1)) (i + 1) (next - (i + 1))
+      (λ m less. fault_beneath start end room i (i + 1 + m) from closed some (omega arith) (omega arith)) in
+      grind arith
 
   -- behind a row and what is beneath it all rows so far are closed
   pub closed_next : (start room i : ℕ) → start ≤ i → Closed start i → i < end_at views i
