@@ -61,21 +61,15 @@ module _ (rows : List SelectionRow) where
       let at = placed d s (is_nil ds) (length rows) own.0 in
       let rest = or_else_none (in_rows (first_misfit views d.first d.end 32)) (rows_fault views ds) clean-rows in
       let begins = at.begins in
-      let none_here : first_misfit views s d.end 32 ≡ None =
-      ap (λ k. first_misfit views k d.end 32) (sym begins) ∙ in_rows_none _ rest.0 in
+      let none_here : first_misfit views s d.end 32 ≡ None = grind (arith, begins, in_rows_none _ rest.0) in
       let forest = lawful selections selection_rules rows no_row s d.end 32 (omega (arith, at.forward)) at.inside none_here in
       let f = forest.0 in
       let ends : d.end ≡ s + size f = forest.1.stand.ends in
       let later = reads_from d.end (i + 1) ds at.inside at.ends own.1 rest.1 in
       record {
         document = record { head = head_of d; selected = f } ∷ later.document;
-        heads =
-            ap (λ k. definition_row (head_of d) k d.end ∷ ds) begins
-            ∙ ap (λ k. definition_row (head_of d) s k ∷ ds) ends
-            ∙ ap (λ xs. definition_row (head_of d) s (s + size f) ∷ xs) (later.heads ∙ ap (λ k. definition_rows k later.document) ends);
-        selected =
-            forest.1.stand.reads
-            ∙ ap (λ xs. flatten selection_row s f ++ xs) (later.selected ∙ ap (λ k. selection_rows k later.document) ends);
+        heads = grind (arith, begins, ends, later.heads);
+        selected = grind (arith, ends, later.selected, forest.1.stand.reads);
         keep = (
           record {
             named = at.named;
@@ -169,8 +163,7 @@ without_fault ds rows docs is =
     ∙ ap (λ x. or_else x (rows_fault (map selection_view rows) ds)) heads ∙ rest
 
 same_forest : (s : ℕ) (f g : Forest Selection) → flatten selection_row s f ≡ flatten selection_row s g → size f ≡ size g → f ≡ g
-same_forest s f g same sizes =
-    sym (read-flatten selections (size f) s f (omega arith)) ∙ ap (read selections (size f) s) same ∙ read-flatten selections (size f) s g (omega arith)
+same_forest s f g same sizes = grind (arith, read-flatten selections (size f) s f (omega arith), read-flatten selections (size f) s g (omega arith))
 
 -- two documents with one layout are the same
 unique_from : (s : ℕ) (xs ys : List Definition) → definition_rows s xs ≡ definition_rows s ys → selection_rows s xs ≡ selection_rows s ys → xs ≡ ys
@@ -191,9 +184,7 @@ unique_from s (x ∷ xs) (y ∷ ys) heads rows =
     sym (drop_at (flatten selection_row s x.selected) _ (size x.selected) long-x) ∙ ap (drop (size x.selected)) rows ∙ drop_at (flatten selection_row s y.selected) _ (size x.selected) long-y in
     let forest = same_forest s x.selected y.selected own sizes in
     let rest = unique_from (s + size x.selected) xs ys (others ∙ ap (λ k. definition_rows k ys) (sym ends)) (later ∙ ap (λ k. selection_rows k ys) (sym ends)) in
-    ap (λ h. record { head = h; selected = x.selected } ∷ xs) head
-    ∙ ap (λ f. record { head = y.head; selected = f } ∷ xs) forest
-    ∙ ap (λ ds. y ∷ ds) rest
+    grind (arith, head, forest, rest)
 
 pub only_one : (ds : List DefinitionRow) (rows : List SelectionRow) (x y : List Definition) → IsDocument ds rows x → IsDocument ds rows y → x ≡ y
 only_one ds rows x y a b = unique_from 0 x y (sym a.heads ∙ b.heads) (sym a.selected ∙ b.selected)

@@ -22,10 +22,7 @@ one_more false = omega arith
 pub few_keys : (f : Forest Selection) (above : ℕ) → above + depth f ≤ 32 → path_keys above f ≤ 32 * size f
 few_keys none above shallow = omega arith
 few_keys (row s below after) above shallow =
-    let step = one_more (is_field s) in
-    let lower = few_keys below (way above s) (omega arith) in
-    let later = few_keys after above (omega arith) in
-    omega arith
+    grind (arith, few_keys below (way above s) (let one = one_more (is_field s) in omega arith), few_keys after above (omega arith))
 
 -- a step over a selection of a forest
 pub record Stepped (rows : List SelectionRow) (set : SelectionSet) (g : Forest Selection) (step : SelectionStep) : Type 0 where
@@ -115,25 +112,18 @@ turned rows set above g step w holds shallow is wide =
 
 -- the keys of a set of few rows
 pub set_keys : (rows : List SelectionRow) (set : SelectionSet) (above : ℕ) (f : Forest Selection) → length rows ≤ 4096 → Holds rows set f → above + depth f ≤ 32 → path_keys above f ≤ 131072
-set_keys rows set above f few holds shallow =
-    let bound = few_keys f above shallow in
-    omega (arith, holds.stand.ends, holds.within)
+set_keys rows set above f few holds shallow = omega (arith, few_keys f above shallow, holds.stand.ends, holds.within)
 
 module _ (rows : List SelectionRow) where
   -- no document of few rows has more than 32 for each
   few_in : (s : ℕ) (docs : List Definition) → AllKeep docs → keys_in docs ≤ 32 * rows_in docs
   few_in s [] keep = omega arith
-  few_in s (d ∷ docs) keep =
-      let own = few_keys d.selected 0 (omega (arith, keep.0.shallow)) in
-      let rest = few_in s docs keep.1 in
-      omega arith
+  few_in s (d ∷ docs) keep = grind (arith, few_keys d.selected 0 (omega (arith, keep.0.shallow)), few_in s docs keep.1)
 
   pub all_rows : (s : ℕ) (docs : List Definition) → length (selection_rows s docs) ≡ rows_in docs
   all_rows s [] = refl
   all_rows s (d ∷ docs) =
-      let long = length-flatten selection_row s d.selected in
-      let rest = all_rows (s + size d.selected) docs in
-      length-append (flatten selection_row s d.selected) (selection_rows (s + size d.selected) docs) ∙ omega arith
+      grind (arith, length-flatten selection_row s d.selected, all_rows (s + size d.selected) docs, length-append (flatten selection_row s d.selected) (selection_rows (s + size d.selected) docs))
 
   -- one definition more
   pub keys_more : (docs : List Definition) (i : ℕ) → i < length docs → keys_in (drop i docs) ≡ path_keys 0 (get_or docs i no_definition).selected + keys_in (drop (i + 1) docs)
@@ -148,10 +138,7 @@ module _ (rows : List SelectionRow) where
   document_shallow ds docs i is low = let d = shallow_at docs i low is.keep in omega arith
 
   pub document_keys : (ds : List DefinitionRow) (docs : List Definition) → IsDocument ds rows docs → keys_in docs ≤ 131072
-  document_keys ds docs is =
-      let bound = few_in 0 docs is.keep in
-      let total = ap length is.selected ∙ all_rows 0 docs in
-      omega (arith, is.short)
+  document_keys ds docs is = omega (arith, few_in 0 docs is.keep, ap length is.selected, all_rows 0 docs, is.short)
 
   pub as_many : (ds : List DefinitionRow) (docs : List Definition) → IsDocument ds rows docs → length docs ≡ length ds
   as_many ds docs is = sym (ap length is.heads ∙ rows_many rows 0 docs)

@@ -16,15 +16,11 @@ module _ (rows : List SelectionRow) where
   -- the rest of the rows, behind those of the first definition
   behind : (s : ℕ) (d : Definition) (docs : List Definition) → drop s rows ≡ selection_rows s (d ∷ docs) → drop (s + size d.selected) rows ≡ selection_rows (s + size d.selected) docs
   behind s d docs reads =
-      sym (drop-drop (size d.selected) s rows) ∙ ap (drop (size d.selected)) reads
-      ∙ drop_at (flatten selection_row s d.selected) _ (size d.selected) (length-flatten selection_row s d.selected)
+      grind (arith, drop-drop (size d.selected) s rows, drop_at (flatten selection_row s d.selected) (selection_rows (s + size d.selected) docs) (size d.selected) (length-flatten selection_row s d.selected))
 
   inside : (s : ℕ) (d : Definition) (docs : List Definition) → s ≤ length rows → drop s rows ≡ selection_rows s (d ∷ docs) → s + size d.selected ≤ length rows
   inside s d docs low reads =
-      let long = length-flatten selection_row s d.selected in
-      let total = ap length reads ∙ length-append (flatten selection_row s d.selected) (selection_rows (s + size d.selected) docs) in
-      let left = length-drop s rows in
-      omega arith
+      grind (arith, length-flatten selection_row s d.selected, length-append (flatten selection_row s d.selected) (selection_rows (s + size d.selected) docs), length-drop s rows)
 
   first_holds : (s : ℕ) (d : Definition) (docs : List Definition) → s ≤ length rows → drop s rows ≡ selection_rows s (d ∷ docs) → Holds rows (set_of s (s + size d.selected)) d.selected
   first_holds s d docs low reads =
