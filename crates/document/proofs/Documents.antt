@@ -98,8 +98,7 @@ module _ (rows : List SelectionRow) where
       let total = ap length reads ∙ length-append (flatten selection_row s f) after in
       let left = length-drop s rows in
       let inside : e ≤ length rows = omega arith in
-      let behind : drop e rows ≡ after =
-      sym (drop-drop (size f) s rows) ∙ ap (drop (size f)) reads ∙ drop_at (flatten selection_row s f) after (size f) long in
+      let behind : drop e rows ≡ after = grind (arith, drop-drop (size f) s rows, drop_at (flatten selection_row s f) after (size f) long) in
       let kept = keep.0 in
       let at : Placed r s (is_nil (definition_rows e docs)) (length rows) =
       record {
@@ -114,8 +113,8 @@ module _ (rows : List SelectionRow) where
       let fits = clean selections selection_rules rows no_row f s e 32 inside
       (record { stand = record { ends = refl; reads = reads ∙ ap (λ xs. flatten selection_row s f ++ xs) (sym behind) }; keeps = kept.selections; shallow = kept.shallow }) in
       let later = clean_from e (i + 1) docs inside behind keep.1 in (
-        ap (λ x. at_row InDefinitions i x (definitions_fault (length rows) e (i + 1) (definition_rows e docs))) (placed_fine r s (is_nil (definition_rows e docs)) (length rows) at) ∙ later.0,
-        ap (λ x. or_else (in_rows x) (rows_fault views (definition_rows e docs))) fits ∙ later.1,
+        grind (arith, placed_fine r s (is_nil (definition_rows e docs)) (length rows) at, later.0),
+        grind (arith, fits, later.1),
       )
 
 both_fine : (a b : Bool) → cond a (Some TooManyDefinitions) (cond b (Some TooManyRows) None) ≡ None → (a ≡ false) × (b ≡ false)
@@ -154,13 +153,11 @@ orphans_none (d ∷ docs) = refl
 pub without_fault : (ds : List DefinitionRow) (rows : List SelectionRow) (document : List Definition) → IsDocument ds rows document → document_fault ds rows ≡ None
 without_fault ds rows docs is =
     let Clean-All = clean_from rows 0 0 docs (omega arith) is.selected is.keep in
-    let sizes : size_fault (length ds) (length rows) ≡ None = cond-false _ _ _ (le-ltb 256 (length ds) is.few) ∙ cond-false _ _ _ (le-ltb 4096 (length rows) is.short) in
-    let orphans : orphan_fault ds rows ≡ None = ap (λ x. orphan_fault x rows) is.heads ∙ ap (orphan_fault (definition_rows 0 docs)) is.selected ∙ orphans_none docs in
+    let orphans : orphan_fault ds rows ≡ None = grind (arith, is.heads, is.selected, orphans_none docs) in
+    let sizes : size_fault (length ds) (length rows) ≡ None = rw (le-ltb 256 (length ds) is.few, le-ltb 4096 (length rows) is.short) refl in
     let heads = ap (definitions_fault (length rows) 0 0) is.heads ∙ Clean-All.0 in
     let rest = ap (rows_fault (map selection_view rows)) is.heads ∙ Clean-All.1 in
-    ap (λ x. or_else x (layout_fault ds rows)) sizes
-    ∙ ap (λ x. or_else x (or_else (definitions_fault (length rows) 0 0 ds) (rows_fault (map selection_view rows) ds))) orphans
-    ∙ ap (λ x. or_else x (rows_fault (map selection_view rows) ds)) heads ∙ rest
+    rw (sizes, orphans, heads) rest
 
 same_forest : (s : ℕ) (f g : Forest Selection) → flatten selection_row s f ≡ flatten selection_row s g → size f ≡ size g → f ≡ g
 same_forest s f g same sizes = grind (arith, read-flatten selections (size f) s f (omega arith), read-flatten selections (size f) s g (omega arith))
@@ -179,9 +176,9 @@ unique_from s (x ∷ xs) (y ∷ ys) heads rows =
     let long-x = length-flatten selection_row s x.selected in
     let long-y : length (flatten selection_row s y.selected) ≡ size x.selected = length-flatten selection_row s y.selected ∙ sym sizes in
     let own : flatten selection_row s x.selected ≡ flatten selection_row s y.selected =
-    sym (take_at _ (selection_rows (s + size x.selected) xs) (size x.selected) long-x) ∙ ap (take (size x.selected)) rows ∙ take_at _ _ (size x.selected) long-y in
+    grind (arith, take_at _ (selection_rows (s + size x.selected) xs) (size x.selected) long-x, take_at _ (selection_rows (s + size y.selected) ys) (size x.selected) long-y) in
     let later : selection_rows (s + size x.selected) xs ≡ selection_rows (s + size y.selected) ys =
-    sym (drop_at (flatten selection_row s x.selected) _ (size x.selected) long-x) ∙ ap (drop (size x.selected)) rows ∙ drop_at (flatten selection_row s y.selected) _ (size x.selected) long-y in
+    grind (arith, drop_at _ (selection_rows (s + size x.selected) xs) (size x.selected) long-x, drop_at _ (selection_rows (s + size y.selected) ys) (size x.selected) long-y) in
     let forest = same_forest s x.selected y.selected own sizes in
     let rest = unique_from (s + size x.selected) xs ys (others ∙ ap (λ k. definition_rows k ys) (sym ends)) (later ∙ ap (λ k. selection_rows k ys) (sym ends)) in
     grind (arith, head, forest, rest)
