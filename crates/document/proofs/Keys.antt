@@ -49,18 +49,14 @@ stepped_at rows set (row s below after) step at follows =
       own = follows.1;
       beneath = follows.2;
       beyond = follows.3;
-      starts = ap (λ x. x.beneath.next) at;
-      meets = ap (λ x. x.beneath.end) at ∙ sym (ap (λ x. x.after.next) at);
-      ends = ap (λ x. x.after.end) at;
+      starts = grind arith;
+      meets = grind arith;
+      ends = grind arith;
     }
-
-some_step : (b : Bool) (x y : SelectionStep) → Some x ≡ cond b None (Some y) → x ≡ y
-some_step true x y is = grind arith
-some_step false x y is = cc
 
 pub stepped : (rows : List SelectionRow) (set : SelectionSet) (g : Forest Selection) (step : SelectionStep) → Holds rows set g → Some step ≡ next_of rows set → Stepped rows set g step
 stepped rows set g step holds is =
-    stepped_at rows set g step (some_step _ step _ is) (subst (Follows rows set g) (sym is) (next_follows rows set g holds))
+    stepped_at rows set g step (grind arith) (subst (Follows rows set g) (sym is) (next_follows rows set g holds))
 
 -- a set with no next selection stands for no row
 pub ended : (rows : List SelectionRow) (set : SelectionSet) (g : Forest Selection) → Holds rows set g → None ≡ next_of rows set → g ≡ none
@@ -102,7 +98,7 @@ turned rows set above g step w holds shallow is wide =
       beyond = st.beyond;
       lower = omega arith;
       later = omega arith;
-      sums = ap (path_keys above) st.is ∙ ap (λ x. x + (path_keys x st.below + path_keys above st.after)) (sym own);
+      sums = grind (arith, st.is, own);
       starts = st.starts;
       low = omega (arith, st.starts, st.meets, st.beneath.stand.ends);
       meets = st.meets;
