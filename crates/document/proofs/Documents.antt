@@ -1,15 +1,14 @@
 -- Tables without a fault are the layout of a document, the layout of a document is without a fault, and there is one only.
-use Rattle.std.proofs.Common.{◌≡◌, ℕ, ◌+◌, ◌≤◌, Bool, true, false, cond, not, ◌&&◌, eqb, ltb, List, [], ◌∷◌, ◌++◌, map, length, take, drop, Some, None, Ok, Err, Option, Result, sym, refl, ap, ◌∙◌, arith}
+use Rattle.std.proofs.Common.{◌≡◌, ℕ, ◌+◌, ◌≤◌, Bool, true, false, cond, not, ◌&&◌, eqb, ltb, List, [], ◌∷◌, ◌++◌, map, length, drop, Some, None, Ok, Err, Option, Result, sym, refl, ap, ◌∙◌, arith}
 use Rattle.std.specs.Result.{MatchResult}
 use Rattle.std.proofs.lemmas.List.{drop_all, drop_at, drop-drop, take_at, length-append, length-drop}
 use Rattle.std.proofs.lemmas.Bool.{cond-false, eq-eqb, le-ltb, ltb-false, or_from, not_from_true, false≢true}
-use Rattle.refusal.specs.Firsts.{at_row, or_else, verdict_of}
+use Rattle.refusal.specs.Firsts.{verdict_of}
 use Rattle.refusal.proofs.Firsts.{at_row_none, or_else_none, verdict_ok, verdict_err}
 use Rattle.layout.specs.declared.row.RowView.{RowView}
 use Rattle.layout.specs.declared.row.Misfit.{Misfit}
 use Rattle.layout.specs.Forest.{Forest, size, flatten}
 use Rattle.layout.specs.Places.{first_misfit}
-use Rattle.layout.specs.Shapes.{read}
 use Rattle.layout.proofs.Tables.{length-flatten, read-flatten}
 use Rattle.layout.proofs.Forests.{lawful, clean}
 use Rattle.document.specs.declared.rows.DefinitionRow.{DefinitionRow}

@@ -6,13 +6,13 @@ use Rattle.document.specs.declared.rows.SelectionRow.{SelectionRow}
 use Rattle.document.specs.declared.handed.sets.SelectionSet.{SelectionSet}
 use Rattle.document.specs.declared.handed.sets.SelectionStep.{SelectionStep}
 use Rattle.document.specs.Rows.{Selection, Head, head_of, definition_row, selections, selection_of, selection_row, is_field}
-use Rattle.document.specs.Sets.{no_row, next_of, step_at, Holds, Follows}
+use Rattle.document.specs.Sets.{no_row, no_definition_row, set_of, next_of, step_at, Holds, Follows}
 use Rattle.document.specs.declared.rows.DefinitionRow.{DefinitionRow}
 use Rattle.document.specs.Document.{Definition, no_definition, definition_rows, selection_rows, AllKeep, IsDocument}
 use Rattle.document.specs.Needs.{way, path_keys, rows_in, keys_in}
-use Rattle.std.proofs.lemmas.List.{at_drop_more, length-append}
+use Rattle.std.proofs.lemmas.List.{at_drop_more, at_drop_all, length-append}
 use Rattle.std.proofs.lemmas.List.Sums.{sum_by-cons}
-use Rattle.document.proofs.Sets.{next_follows, rows_many}
+use Rattle.document.proofs.Sets.{row_holds, next_follows, rows_many}
 
 one_more : (b : Bool) → cond b 1 0 ≤ 1
 one_more true = omega arith
@@ -121,23 +121,38 @@ module _ (rows : List SelectionRow) where
   all_rows s (d ∷ docs) =
       grind (arith, length-flatten selection_row s d.selected, all_rows (s + size d.selected) docs, length-append (flatten selection_row s d.selected) (selection_rows (s + size d.selected) docs))
 
-  -- one definition more
-  pub keys_more : (docs : List Definition) (i : ℕ) → i < length docs → keys_in (drop i docs) ≡ path_keys 0 (get_or docs i no_definition).selected + keys_in (drop (i + 1) docs)
-  keys_more docs i low = at_drop_more keys_in docs i no_definition low
-
   shallow_at : (docs : List Definition) (i : ℕ) → i < length docs → AllKeep docs → depth (get_or docs i no_definition).selected ≤ 32
   shallow_at [] i low keep = absurd (omega arith)
   shallow_at (d ∷ docs) zero low keep = keep.0.shallow
   shallow_at (d ∷ docs) (suc i) low keep = shallow_at docs i (omega arith) keep.1
 
-  pub document_shallow : (ds : List DefinitionRow) (docs : List Definition) (i : ℕ) → IsDocument ds rows docs → i < length docs → 0 + depth (get_or docs i no_definition).selected ≤ 32
-  document_shallow ds docs i is low = let d = shallow_at docs i low is.keep in omega arith
-
-  pub document_keys : (ds : List DefinitionRow) (docs : List Definition) → IsDocument ds rows docs → keys_in docs ≤ 131072
+  document_keys : (ds : List DefinitionRow) (docs : List Definition) → IsDocument ds rows docs → keys_in docs ≤ 131072
   document_keys ds docs is = omega (arith, few_in 0 docs is.keep, ap length is.selected, all_rows 0 docs, is.short)
 
   pub as_many : (ds : List DefinitionRow) (docs : List Definition) → IsDocument ds rows docs → length docs ≡ length ds
   as_many ds docs is = sym (ap length is.heads ∙ rows_many rows 0 docs)
+
+  -- the path keys of the definition at i are those of the forest that its set stands for
+  pub record KeysAt (docs : List Definition) (i : ℕ) (set : SelectionSet) : Type 0 where
+    pub holds : Holds rows set (get_or docs i no_definition).selected
+    pub shallow : 0 + depth (get_or docs i no_definition).selected ≤ 32
+    pub more : keys_in (drop i docs) ≡ path_keys 0 (get_or docs i no_definition).selected + keys_in (drop (i + 1) docs)
+    pub few : keys_in docs ≤ 131072
+
+  pub keys_at : (ds : List DefinitionRow) (docs : List Definition) (i : ℕ) (set : SelectionSet) → IsDocument ds rows docs → i < length ds
+      → set ≡ set_of (get_or ds i no_definition_row).first (get_or ds i no_definition_row).end → KeysAt docs i set
+  keys_at ds docs i set is low at =
+      let inside : i < length docs = omega (arith, as_many ds docs is) in
+      record {
+        holds = rw at (row_holds rows ds docs i is low);
+        shallow = omega (arith, shallow_at docs i inside is.keep);
+        more = at_drop_more keys_in docs i no_definition inside;
+        few = document_keys ds docs is;
+      }
+
+  -- past the last definition there are none
+  pub keys_past : (ds : List DefinitionRow) (docs : List Definition) (i : ℕ) → IsDocument ds rows docs → length ds ≤ i → keys_in (drop i docs) ≡ 0
+  keys_past ds docs i is high = at_drop_all keys_in docs i (omega (arith, as_many ds docs is))
 
 -- counting rows is counting heads
 pub count_heads : (p : Head → Bool) (s : ℕ) (docs : List Definition) → count_by (λ r. p (head_of r)) (definition_rows s docs) ≡ count_by (λ d. p d.head) docs

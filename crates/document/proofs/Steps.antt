@@ -1,9 +1,9 @@
 -- The steps of the check: one definition more.
-use Rattle.std.proofs.Common.{◌≡◌, ℕ, zero, suc, ◌+◌, ◌<◌, ◌≤◌, min, Bool, true, false, cond, not, ◌&&◌, ◌||◌, eqb, ltb, List, [], ◌∷◌, length, get_or, drop, Some, None, Ok, Err, Option, sym, refl, ap, ◌∙◌, ⊎_elim, arith}
+use Rattle.std.proofs.Common.{◌≡◌, ℕ, zero, suc, ◌+◌, ◌<◌, ◌≤◌, min, Bool, true, false, cond, not, ◌&&◌, ◌||◌, eqb, ltb, List, [], ◌∷◌, length, get_or, drop, Some, None, Ok, Err, Option, sym, refl, ap, ◌∙◌, arith}
 use Rattle.std.proofs.lemmas.List.{at_drop_more}
-use Rattle.std.proofs.lemmas.Bool.{eq-eqb, ne_eqb, eqb-true, not-false, cases_eq, or_parts, ltb-false, false≢true}
+use Rattle.std.proofs.lemmas.Bool.{eqb-true, not-false, or_parts, ltb-false, false≢true}
 use Rattle.refusal.specs.Firsts.{at_row, or_else, verdict_of}
-use Rattle.refusal.proofs.Firsts.{at_row_none, verdict_ok, verdict_err}
+use Rattle.refusal.proofs.Firsts.{at_row_none, verdict_err}
 use Rattle.layout.specs.declared.row.RowFault.{RowFault}
 use Rattle.layout.specs.declared.row.RowFault.TheVariants.{NameMissing, Broken}
 use Rattle.layout.specs.declared.row.RowView.{RowView}
