@@ -41,6 +41,7 @@ impl Document<'_> {
         requires stands { (f : Forest Selection) × Holds self.now.rows.now set f × (above + depth f ≤ 32) }
         ensures { (f : Forest Selection) → Holds self.now.rows.now set f → result ≡ path_keys above f }
     {
+        // Kept, as at `next_selection`: a set is read step by step.
         let mut total = 0;
         let mut rest = set;
         while let Some(step) = self.next_selection(rest) {
@@ -57,6 +58,7 @@ impl Document<'_> {
         requires lawful { (d : List Definition) × IsDocument self.now.definitions.now self.now.rows.now d }
         ensures { (d : List Definition) → IsDocument self.now.definitions.now self.now.rows.now d → result ≡ keys_in d }
     {
+        // Kept, no `map` and `sum`: each call rests on the definition's own forest, and the chain's proof did not close.
         let mut total = 0;
         for row in self.definitions {
             total += self.path_keys_in_set(row.selections(), 0);
