@@ -9,7 +9,7 @@ use Rattle.document.specs.Rows.{Selection, Head, head_of, definition_row, select
 use Rattle.document.specs.Sets.{no_row, no_definition_row, set_of, next_of, step_at, Holds, Follows}
 use Rattle.document.specs.declared.rows.DefinitionRow.{DefinitionRow}
 use Rattle.document.specs.Document.{Definition, no_definition, definition_rows, selection_rows, AllKeep, IsDocument}
-use Rattle.document.specs.Needs.{way, path_keys, rows_in, keys_in}
+use Rattle.document.specs.Needs.{way, forest_keys, rows_in, keys_in}
 use Rattle.std.proofs.lemmas.List.{at_drop_more, at_drop_all, length-append}
 use Rattle.std.proofs.lemmas.List.Sums.{sum_by-cons}
 use Rattle.document.proofs.Sets.{row_holds, next_follows, rows_many}
@@ -19,7 +19,7 @@ one_more true = omega arith
 one_more false = omega arith
 
 -- no row has more than 32
-pub few_keys : (f : Forest Selection) (above : ℕ) → above + depth f ≤ 32 → path_keys above f ≤ 32 * size f
+pub few_keys : (f : Forest Selection) (above : ℕ) → above + depth f ≤ 32 → forest_keys above f ≤ 32 * size f
 few_keys none above shallow = omega arith
 few_keys (row s below after) above shallow =
     grind (arith, few_keys below (way above s) (let one = one_more (is_field s) in omega arith), few_keys after above (omega arith))
@@ -76,7 +76,7 @@ pub record Turned (rows : List SelectionRow) (set : SelectionSet) (above : ℕ) 
   pub beyond : Holds rows step.after after
   pub lower : w + depth below ≤ 32
   pub later : above + depth after ≤ 32
-  pub sums : path_keys above g ≡ w + (path_keys w below + path_keys above after)
+  pub sums : forest_keys above g ≡ w + (forest_keys w below + forest_keys above after)
   pub starts : step.beneath.next ≡ set.next + 1
   pub low : set.next < step.after.next
   pub meets : step.beneath.end ≡ step.after.next
@@ -107,7 +107,7 @@ turned rows set above g step w holds shallow is wide =
     }
 
 -- the keys of a set of few rows
-pub set_keys : (rows : List SelectionRow) (set : SelectionSet) (above : ℕ) (f : Forest Selection) → length rows ≤ 4096 → Holds rows set f → above + depth f ≤ 32 → path_keys above f ≤ 131072
+pub set_keys : (rows : List SelectionRow) (set : SelectionSet) (above : ℕ) (f : Forest Selection) → length rows ≤ 4096 → Holds rows set f → above + depth f ≤ 32 → forest_keys above f ≤ 131072
 set_keys rows set above f few holds shallow = omega (arith, few_keys f above shallow, holds.stand.ends, holds.within)
 
 module _ (rows : List SelectionRow) where
@@ -136,7 +136,7 @@ module _ (rows : List SelectionRow) where
   pub record KeysAt (docs : List Definition) (i : ℕ) (set : SelectionSet) : Type 0 where
     pub holds : Holds rows set (get_or docs i no_definition).selected
     pub shallow : 0 + depth (get_or docs i no_definition).selected ≤ 32
-    pub more : keys_in (drop i docs) ≡ path_keys 0 (get_or docs i no_definition).selected + keys_in (drop (i + 1) docs)
+    pub more : keys_in (drop i docs) ≡ forest_keys 0 (get_or docs i no_definition).selected + keys_in (drop (i + 1) docs)
     pub few : keys_in docs ≤ 131072
 
   pub keys_at : (ds : List DefinitionRow) (docs : List Definition) (i : ℕ) (set : SelectionSet) → IsDocument ds rows docs → i < length ds
