@@ -1,13 +1,12 @@
 -- A row in a range, and in the smaller range beneath a row: what encloses it, how deep it stands, what is wrong with it.
-use Rattle.std.proofs.Common.{◌≡◌, ℕ, zero, suc, ◌+◌, ◌-◌, ◌<◌, ◌≤◌, Bool, true, false, cond, not, ◌&&◌, eqb, ltb, leb, List, get_or, IfErr, Some, None, Ok, Err, Option, Result, sym, refl, ap, ◌∙◌, subst, ⊎_elim, arith}
-use Rattle.std.proofs.lemmas.Bool.{cond-true, cond-false, cond_both, lt-ltb, le-ltb, le-leb, lt-leb, leb-false, ltb-false, eqb-true, eqb-false, eq-eqb, ne_eqb, or_parts, or_from, and_cases, and_left, and_right, not_from_true, not-false, cases_eq, cases_lt, cases_Bool, false≢true}
+use Rattle.std.proofs.Common.{◌≡◌, ℕ, zero, suc, ◌+◌, ◌-◌, ◌<◌, ◌≤◌, Bool, true, false, eqb, ltb, leb, List, get_or, IfErr, Some, None, Ok, Err, Option, Result, sym, refl, ap, ◌∙◌, subst, ⊎_elim, arith}
+use Rattle.std.proofs.lemmas.Bool.{lt-ltb, eqb-false, cases_eq, cases_lt}
 use Rattle.refusal.specs.Firsts.{at_row, first_fault, or_else, verdict_of}
 use Rattle.refusal.proofs.Firsts.{verdict_ok, verdict_err, fault_next, fault_here, first_same, first_parts, no_fault}
 use Rattle.layout.specs.declared.row.RowFault.{RowFault}
-use Rattle.layout.specs.declared.row.RowFault.TheVariants.{NameMissing, Broken, TooDeep}
 use Rattle.layout.specs.declared.row.RowView.{RowView}
 use Rattle.layout.specs.declared.row.Misfit.{Misfit}
-use Rattle.layout.specs.Places.{no_view, end_at, open_at, enclosing_end, breaks, own_fault, fault_in, misfit, first_misfit}
+use Rattle.layout.specs.Places.{no_view, end_at, open_at, enclosing_end, own_fault, fault_in, misfit, first_misfit}
 
 -- what it says of a row that nothing is wrong with it
 pub record Fits (view : RowView) (k bound : ℕ) (deep : Bool) : Type 0 where
@@ -17,12 +16,6 @@ pub record Fits (view : RowView) (k bound : ℕ) (deep : Bool) : Type 0 where
   pub inside : view.end ≤ bound
   pub leaf : view.leaf ≡ true → view.end ≡ k + 1
   pub shallow : deep ≡ false
-
-no_some : (a b c : Bool) → cond a (Some NameMissing) (cond b (Some Broken) (cond c (Some TooDeep) None)) ≡ None → (a ≡ false) × (b ≡ false) × (c ≡ false)
-no_some true b c is = grind arith
-no_some false true c is = grind arith
-no_some false false true is = grind arith
-no_some false false false is = (refl, refl, refl)
 
 pub fits : (view : RowView) (k bound : ℕ) (deep : Bool) → own_fault view k bound deep ≡ None → Fits view k bound deep
 fits view k bound deep fine = grind arith
@@ -165,8 +158,7 @@ module _ (views : List RowView) where
     -- the row does not fit
     pub turn_here : (f : RowFault) → Err f ≡ verdict_of (own_fault v i end (eqb room 0)) → Err (misfit f (i + 1)) ≡ verdict_of (first_misfit views start end room)
     turn_here f bad =
-        ap verdict_of
-        (sym (fault_here misfit (fault_in views start end room) i (end - i) (end - (i + 1)) f (omega arith) (own_here ∙ verdict_err _ f (sym bad))) ∙ at.whole)
+        grind (arith, own_here, fault_here misfit (fault_in views start end room) i (end - i) (end - (i + 1)) f (omega arith) (own_here ∙ verdict_err _ f (sym bad)), at.whole)
 
     -- it fits: what is beneath it is searched, then the rest
     turn : Ok tt ≡ verdict_of (own_fault v i end (eqb room 0)) → (r : Option Misfit) → r ≡ first_misfit views (i + 1) v.end (room - 1)

@@ -27,13 +27,6 @@ module _ {F G : Type 0} (told : F → ℕ → G) (fault : ℕ → Option F) wher
   no_fault i (suc left) none (suc m) low =
       grind (arith, no_fault (i + 1) left (at_row_none i (fault i) (first_fault told fault (i + 1) left) none).1 m (omega arith))
 
-  -- where no row has a fault, there is no first
-  pub all_fine : (i left : ℕ) → ((m : ℕ) → m < left → fault (i + m) ≡ None) → first_fault told fault i left ≡ None
-  all_fine i zero fine = refl
-  all_fine i (suc left) fine =
-      ap (λ f. at_row told i f (first_fault told fault (i + 1) left)) (ap fault (omega arith) ∙ fine 0 (omega arith))
-      ∙ all_fine (i + 1) left (λ m low. ap fault (omega arith) ∙ fine (suc m) (omega arith))
-
 -- the same fault of each row gives the same first fault
 pub first_same : {F G : Type 0} (told : F → ℕ → G) (fault other : ℕ → Option F) (i left : ℕ) → ((m : ℕ) → m < left → fault (i + m) ≡ other (i + m)) → first_fault told fault i left ≡ first_fault told other i left
 first_same told fault other i zero same = refl
