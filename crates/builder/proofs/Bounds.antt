@@ -6,7 +6,7 @@ use Rattle.document.specs.declared.rows.SelectionRow.{SelectionRow}
 use Rattle.document.specs.declared.handed.sets.SelectionSet.{SelectionSet}
 use Rattle.document.specs.Rows.{Selection, is_field, is_spread}
 use Rattle.document.specs.Sets.{Holds}
-use Rattle.document.specs.Needs.{way, path_keys}
+use Rattle.document.specs.Needs.{way, forest_keys}
 use Rattle.schema.specs.Meaning.{Meaning}
 use Rattle.selection_rules.specs.declared.settling.Settled.{Settled}
 use Rattle.selection_rules.specs.declared.settling.Settled.TheVariants.{Kept, Dropped, Faulty}
@@ -56,10 +56,10 @@ listed_few (Faulty fault) p around s lower later w b k own few rest =
     let same = ap length (fault_keys fault p around s) in
     omega (arith, length-append (keys_of (error_of fault p around s)) (keys_in later))
 
-pub keys_few : (m : Meaning) (p : Path) (around : ℕ) (f : Forest Selection) → length (keys_in (errors m p around f)) ≤ path_keys (length p.keys) f
+pub keys_few : (m : Meaning) (p : Path) (around : ℕ) (f : Forest Selection) → length (keys_in (errors m p around f)) ≤ forest_keys (length p.keys) f
 keys_few m p around none = omega arith
 keys_few m p around (row s below after) =
     listed_few (settled_in m around s (some_row below)) (path_to p s) around s (λ inner. errors m (path_to p s) inner below) (errors m p around after)
-    (way (length p.keys) s) (path_keys (way (length p.keys) s) below) (path_keys (length p.keys) after) (path_way p s)
-    (λ inner. subst (λ (n : ℕ). length (keys_in (errors m (path_to p s) inner below)) ≤ path_keys n below) (path_way p s) (keys_few m (path_to p s) inner below))
+    (way (length p.keys) s) (forest_keys (way (length p.keys) s) below) (forest_keys (length p.keys) after) (path_way p s)
+    (λ inner. subst (λ (n : ℕ). length (keys_in (errors m (path_to p s) inner below)) ≤ forest_keys n below) (path_way p s) (keys_few m (path_to p s) inner below))
     (keys_few m p around after)

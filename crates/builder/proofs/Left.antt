@@ -7,7 +7,7 @@ use Rattle.document.specs.declared.handed.sets.SelectionSet.{SelectionSet}
 use Rattle.document.specs.declared.handed.sets.SelectionStep.{SelectionStep}
 use Rattle.document.specs.Rows.{Selection, selection_of, is_field}
 use Rattle.document.specs.Sets.{next_of, Holds}
-use Rattle.document.specs.Needs.{way, path_keys}
+use Rattle.document.specs.Needs.{way, forest_keys}
 use Rattle.document.proofs.Keys.{stepped, ended, same_set}
 use Rattle.schema.specs.Meaning.{Meaning}
 use Rattle.selection_rules.specs.declared.stored.StoredRow.{StoredRow}
@@ -83,7 +83,7 @@ module _ (m : Meaning) (handed : List SelectionRow) (set₀ : SelectionSet) (aro
     pub later : above + depth after ≤ 32
     pub shallow : above < 32
     pub opens : way above (selection_of step.row) ≤ above + 1
-    pub keys : path_keys above g ≡ way above (selection_of step.row) + (path_keys (way above (selection_of step.row)) below + path_keys above after)
+    pub keys : forest_keys above g ≡ way above (selection_of step.row) + (forest_keys (way above (selection_of step.row)) below + forest_keys above after)
     pub starts : step.beneath.next ≡ rest.next + 1
     pub low : rest.next < step.after.next
     pub meets : step.beneath.end ≡ step.after.next
@@ -109,7 +109,7 @@ module _ (m : Meaning) (handed : List SelectionRow) (set₀ : SelectionSet) (aro
         later = omega arith;
         shallow = omega arith;
         opens = omega arith;
-        keys = ap (path_keys above) is;
+        keys = ap (forest_keys above) is;
         starts = st.starts;
         low = omega (arith, st.starts, st.meets, st.beneath.stand.ends);
         meets = st.meets;
@@ -191,7 +191,7 @@ module _ (m : Meaning) (handed : List SelectionRow) (set₀ : SelectionSet) (aro
       → (d : ℕ) → d ≡ way above (selection_of step.row) → Room handed step.beneath d (opened_with o r) t.below
   beneath rest o w step t r d deep =
       let room = w.room in
-      let paths = ap (λ (n : ℕ). path_keys n t.below) deep in
+      let paths = ap (λ (n : ℕ). forest_keys n t.below) deep in
       let long = length-set o.rows o.filled.rows r in
       record {
         holds = t.beneath;
@@ -222,7 +222,7 @@ module _ (m : Meaning) (handed : List SelectionRow) (set₀ : SelectionSet) (aro
       in
       let few = set_few m (path_to p s) inner t.below in
       let open-keys : length (path_to p s).keys ≡ way above s = path_way p s ∙ ap (λ n. way n s) even in
-      let paths = subst (λ (n : ℕ). length (keys_in es) ≤ path_keys n t.below) open-keys (keys_few m (path_to p s) inner t.below) in
+      let paths = subst (λ (n : ℕ). length (keys_in es) ≤ forest_keys n t.below) open-keys (keys_few m (path_to p s) inner t.below) in
       let errors_fit : o.filled.errors + length es ≤ length o.errors = omega (arith, t.many, room.errors_fit) in
       let keys_fit : o.filled.path_keys + length (keys_in es) ≤ length o.path_keys = omega (arith, t.keys, room.keys_fit) in
       let wide = length-set o.rows o.filled.rows (stored_row a 0) in

@@ -5,7 +5,7 @@ use Rattle.document.specs.declared.rows.SelectionRow.{SelectionRow}
 use Rattle.document.specs.declared.handed.sets.SelectionSet.{SelectionSet}
 use Rattle.document.specs.Rows.{Selection}
 use Rattle.document.specs.Sets.{Holds}
-use Rattle.document.specs.Needs.{path_keys}
+use Rattle.document.specs.Needs.{forest_keys}
 use Rattle.selection_rules.specs.declared.stored.StoredRow.{StoredRow}
 use Rattle.selection_rules.specs.declared.error.BuildError.{BuildError}
 use Rattle.selection_rules.specs.Stored.{Stored, stored_row}
@@ -49,5 +49,5 @@ pub record Room (rows : List SelectionRow) (set : SelectionSet) (above : ℕ) (o
   pub rows_fit : o.filled.rows + size f ≤ length o.rows
   pub rows_few : o.filled.rows + size f ≤ 16384
   pub errors_fit : o.filled.errors + size f ≤ length o.errors
-  pub keys_fit : o.filled.path_keys + path_keys above f ≤ length o.path_keys
-  pub keys_few : o.filled.path_keys + path_keys above f ≤ 131072
+  pub keys_fit : o.filled.path_keys + forest_keys above f ≤ length o.path_keys
+  pub keys_few : o.filled.path_keys + forest_keys above f ≤ 131072

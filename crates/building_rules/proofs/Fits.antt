@@ -5,7 +5,7 @@ use Rattle.layout.specs.Forest.{Forest, none, row, size}
 use Rattle.document.specs.Rows.{Selection, Head, is_field, is_spread, is_fragment}
 use Rattle.document.specs.Rows.{named_operation as has-name}
 use Rattle.document.specs.Document.{Definition}
-use Rattle.document.specs.Needs.{way, path_keys, rows_in}
+use Rattle.document.specs.Needs.{way, forest_keys, rows_in}
 use Rattle.document.specs.Needs.{keys_in as document_keys}
 use Rattle.schema.specs.Meaning.{Meaning}
 use Rattle.selection_rules.specs.declared.settling.SelectionFault.{SelectionFault}
@@ -68,12 +68,12 @@ module _ (m : Meaning) where
       simp length-append (omega arith)
 
   -- at most the keys of its path for each selection
-  pub keys_few : (p : Path) (around : ℕ) (f : Forest Selection) → length (keys_in (errors m p around f)) ≤ path_keys (length p.keys) f
+  pub keys_few : (p : Path) (around : ℕ) (f : Forest Selection) → length (keys_in (errors m p around f)) ≤ forest_keys (length p.keys) f
   keys_few p around none = omega arith
   keys_few p around (row s below after) =
       let q = path_to p s in
       let long = way_long p s in
-      let lower : (inner : ℕ) → length (keys_in (errors m q inner below)) ≤ path_keys (way (length p.keys) s) below =
+      let lower : (inner : ℕ) → length (keys_in (errors m q inner below)) ≤ forest_keys (way (length p.keys) s) below =
       λ inner. rw long at (keys_few q inner below) in
       let one = listed_keys (settled_in m around s (some_row below)) q around s (λ inner. errors m q inner below) _ lower in
       let rest = keys_few p around after in
@@ -92,7 +92,7 @@ module _ (m : Meaning) where
 -- what one definition comes to, where so many errors are not of its selections
 record FitsOne (n : ℕ) (d : Accepted) (o : Outcome) : Type 0 where
   few : length o.errors ≤ n + size d.selected
-  keys : length (keys_in o.errors) ≤ path_keys 0 d.selected
+  keys : length (keys_in o.errors) ≤ forest_keys 0 d.selected
   rows : rows_kept o.kept ≤ size d.selected
   heads : (p : Head → Bool) → sum_by (λ k. cond (p k.head) 1 0) o.kept ≤ cond (p d.head) 1 0
 

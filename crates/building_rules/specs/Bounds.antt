@@ -4,7 +4,7 @@ use Rattle.layout.specs.Forest.{size}
 use Rattle.document.specs.declared.handed.needs.Needs.{Needs}
 use Rattle.document.specs.Rows.{is_fragment, named_operation}
 use Rattle.document.specs.Document.{Definition}
-use Rattle.document.specs.Needs.{path_keys, needs_of}
+use Rattle.document.specs.Needs.{forest_keys, needs_of}
 use Rattle.schema.specs.Meaning.{Meaning}
 use Rattle.selection_rules.specs.Errors.{Error, keys_in}
 use Rattle.building_rules.specs.Definitions.{Accepted, accepted_from, Kept, State, errors_from, kept_from}
@@ -16,7 +16,7 @@ rows_of (d ∷ ds) = size d.selected + rows_of ds
 
 abbrev pub path_keys_of : List Accepted → ℕ
 path_keys_of [] = 0
-path_keys_of (d ∷ ds) = path_keys 0 d.selected + path_keys_of ds
+path_keys_of (d ∷ ds) = forest_keys 0 d.selected + path_keys_of ds
 
 -- one place for each named operation, fragment and row; errors for twice the definitions plus the rows; the path keys
 abbrev pub needs_for : List Accepted → Needs

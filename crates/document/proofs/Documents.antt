@@ -1,15 +1,14 @@
 -- Tables without a fault are the layout of a document, the layout of a document is without a fault, and there is one only.
-use Rattle.std.proofs.Common.{◌≡◌, ℕ, ◌+◌, ◌≤◌, Bool, true, false, cond, not, ◌&&◌, eqb, ltb, List, [], ◌∷◌, ◌++◌, map, length, take, drop, Some, None, Ok, Err, Option, Result, sym, refl, ap, ◌∙◌, arith}
+use Rattle.std.proofs.Common.{◌≡◌, ℕ, ◌+◌, ◌≤◌, Bool, true, false, cond, not, ◌&&◌, eqb, ltb, List, [], ◌∷◌, ◌++◌, map, length, drop, Some, None, Ok, Err, Option, Result, sym, refl, ap, ◌∙◌, arith}
 use Rattle.std.specs.Result.{MatchResult}
 use Rattle.std.proofs.lemmas.List.{drop_all, drop_at, drop-drop, take_at, length-append, length-drop}
 use Rattle.std.proofs.lemmas.Bool.{cond-false, eq-eqb, le-ltb, ltb-false, or_from, not_from_true, false≢true}
-use Rattle.refusal.specs.Firsts.{at_row, or_else, verdict_of}
+use Rattle.refusal.specs.Firsts.{verdict_of}
 use Rattle.refusal.proofs.Firsts.{at_row_none, or_else_none, verdict_ok, verdict_err}
 use Rattle.layout.specs.declared.row.RowView.{RowView}
 use Rattle.layout.specs.declared.row.Misfit.{Misfit}
 use Rattle.layout.specs.Forest.{Forest, size, flatten}
 use Rattle.layout.specs.Places.{first_misfit}
-use Rattle.layout.specs.Shapes.{read}
 use Rattle.layout.proofs.Tables.{length-flatten, read-flatten}
 use Rattle.layout.proofs.Forests.{lawful, clean}
 use Rattle.document.specs.declared.rows.DefinitionRow.{DefinitionRow}
@@ -24,7 +23,7 @@ use Rattle.document.proofs.Steps.{Placed, placed}
 
 in_rows_none : (m : Option Misfit) → in_rows m ≡ None → m ≡ None
 in_rows_none None is = refl
-in_rows_none (Some m) is = let z : ◌≡◌ {A = ℕ} 0 1 = cc in absurd (omega arith)
+in_rows_none (Some m) is = grind arith
 
 off_under : (a b : Bool) → (a ≡ true → b ≡ true) → (a && not b) ≡ false
 off_under true b holds = not_from_true b (holds refl)
@@ -61,21 +60,15 @@ module _ (rows : List SelectionRow) where
       let at = placed d s (is_nil ds) (length rows) own.0 in
       let rest = or_else_none (in_rows (first_misfit views d.first d.end 32)) (rows_fault views ds) clean-rows in
       let begins = at.begins in
-      let none_here : first_misfit views s d.end 32 ≡ None =
-      ap (λ k. first_misfit views k d.end 32) (sym begins) ∙ in_rows_none _ rest.0 in
+      let none_here : first_misfit views s d.end 32 ≡ None = grind (arith, begins, in_rows_none _ rest.0) in
       let forest = lawful selections selection_rules rows no_row s d.end 32 (omega (arith, at.forward)) at.inside none_here in
       let f = forest.0 in
       let ends : d.end ≡ s + size f = forest.1.stand.ends in
       let later = reads_from d.end (i + 1) ds at.inside at.ends own.1 rest.1 in
       record {
         document = record { head = head_of d; selected = f } ∷ later.document;
-        heads =
-            ap (λ k. definition_row (head_of d) k d.end ∷ ds) begins
-            ∙ ap (λ k. definition_row (head_of d) s k ∷ ds) ends
-            ∙ ap (λ xs. definition_row (head_of d) s (s + size f) ∷ xs) (later.heads ∙ ap (λ k. definition_rows k later.document) ends);
-        selected =
-            forest.1.stand.reads
-            ∙ ap (λ xs. flatten selection_row s f ++ xs) (later.selected ∙ ap (λ k. selection_rows k later.document) ends);
+        heads = grind (arith, begins, ends, later.heads);
+        selected = grind (arith, ends, later.selected, forest.1.stand.reads);
         keep = (
           record {
             named = at.named;
@@ -104,8 +97,7 @@ module _ (rows : List SelectionRow) where
       let total = ap length reads ∙ length-append (flatten selection_row s f) after in
       let left = length-drop s rows in
       let inside : e ≤ length rows = omega arith in
-      let behind : drop e rows ≡ after =
-      sym (drop-drop (size f) s rows) ∙ ap (drop (size f)) reads ∙ drop_at (flatten selection_row s f) after (size f) long in
+      let behind : drop e rows ≡ after = grind (arith, drop-drop (size f) s rows, drop_at (flatten selection_row s f) after (size f) long) in
       let kept = keep.0 in
       let at : Placed r s (is_nil (definition_rows e docs)) (length rows) =
       record {
@@ -120,18 +112,18 @@ module _ (rows : List SelectionRow) where
       let fits = clean selections selection_rules rows no_row f s e 32 inside
       (record { stand = record { ends = refl; reads = reads ∙ ap (λ xs. flatten selection_row s f ++ xs) (sym behind) }; keeps = kept.selections; shallow = kept.shallow }) in
       let later = clean_from e (i + 1) docs inside behind keep.1 in (
-        ap (λ x. at_row InDefinitions i x (definitions_fault (length rows) e (i + 1) (definition_rows e docs))) (placed_fine r s (is_nil (definition_rows e docs)) (length rows) at) ∙ later.0,
-        ap (λ x. or_else (in_rows x) (rows_fault views (definition_rows e docs))) fits ∙ later.1,
+        grind (arith, placed_fine r s (is_nil (definition_rows e docs)) (length rows) at, later.0),
+        grind (arith, fits, later.1),
       )
 
 both_fine : (a b : Bool) → cond a (Some TooManyDefinitions) (cond b (Some TooManyRows) None) ≡ None → (a ≡ false) × (b ≡ false)
-both_fine true b is = let z : ◌≡◌ {A = ℕ} 0 1 = cc in absurd (omega arith)
-both_fine false true is = let z : ◌≡◌ {A = ℕ} 0 1 = cc in absurd (omega arith)
+both_fine true b is = grind arith
+both_fine false true is = grind arith
 both_fine false false is = (refl, refl)
 
 no_orphans : (ds : List DefinitionRow) (rows : List SelectionRow) → orphan_fault ds rows ≡ None → is_nil ds ≡ true → 0 ≡ length rows
 no_orphans [] [] fine is = refl
-no_orphans [] (r ∷ rows) fine is = let z : ◌≡◌ {A = ℕ} 0 1 = cc in absurd (omega arith)
+no_orphans [] (r ∷ rows) fine is = grind arith
 no_orphans (d ∷ ds) rows fine is = absurd (false≢true is)
 
 -- tables without a fault are a document
@@ -160,23 +152,20 @@ orphans_none (d ∷ docs) = refl
 pub without_fault : (ds : List DefinitionRow) (rows : List SelectionRow) (document : List Definition) → IsDocument ds rows document → document_fault ds rows ≡ None
 without_fault ds rows docs is =
     let Clean-All = clean_from rows 0 0 docs (omega arith) is.selected is.keep in
-    let sizes : size_fault (length ds) (length rows) ≡ None = cond-false _ _ _ (le-ltb 256 (length ds) is.few) ∙ cond-false _ _ _ (le-ltb 4096 (length rows) is.short) in
-    let orphans : orphan_fault ds rows ≡ None = ap (λ x. orphan_fault x rows) is.heads ∙ ap (orphan_fault (definition_rows 0 docs)) is.selected ∙ orphans_none docs in
+    let orphans : orphan_fault ds rows ≡ None = grind (arith, is.heads, is.selected, orphans_none docs) in
+    let sizes : size_fault (length ds) (length rows) ≡ None = rw (le-ltb 256 (length ds) is.few, le-ltb 4096 (length rows) is.short) refl in
     let heads = ap (definitions_fault (length rows) 0 0) is.heads ∙ Clean-All.0 in
     let rest = ap (rows_fault (map selection_view rows)) is.heads ∙ Clean-All.1 in
-    ap (λ x. or_else x (layout_fault ds rows)) sizes
-    ∙ ap (λ x. or_else x (or_else (definitions_fault (length rows) 0 0 ds) (rows_fault (map selection_view rows) ds))) orphans
-    ∙ ap (λ x. or_else x (rows_fault (map selection_view rows) ds)) heads ∙ rest
+    rw (sizes, orphans, heads) rest
 
 same_forest : (s : ℕ) (f g : Forest Selection) → flatten selection_row s f ≡ flatten selection_row s g → size f ≡ size g → f ≡ g
-same_forest s f g same sizes =
-    sym (read-flatten selections (size f) s f (omega arith)) ∙ ap (read selections (size f) s) same ∙ read-flatten selections (size f) s g (omega arith)
+same_forest s f g same sizes = grind (arith, read-flatten selections (size f) s f (omega arith), read-flatten selections (size f) s g (omega arith))
 
 -- two documents with one layout are the same
 unique_from : (s : ℕ) (xs ys : List Definition) → definition_rows s xs ≡ definition_rows s ys → selection_rows s xs ≡ selection_rows s ys → xs ≡ ys
 unique_from s [] [] heads rows = refl
-unique_from s [] (y ∷ ys) heads rows = let z : ◌≡◌ {A = ℕ} 0 1 = cc in absurd (omega arith)
-unique_from s (x ∷ xs) [] heads rows = let z : ◌≡◌ {A = ℕ} 0 1 = cc in absurd (omega arith)
+unique_from s [] (y ∷ ys) heads rows = grind arith
+unique_from s (x ∷ xs) [] heads rows = grind arith
 unique_from s (x ∷ xs) (y ∷ ys) heads rows =
     let first : definition_row x.head s (s + size x.selected) ≡ definition_row y.head s (s + size y.selected) = cc in
     let others : definition_rows (s + size x.selected) xs ≡ definition_rows (s + size y.selected) ys = cc in
@@ -186,14 +175,12 @@ unique_from s (x ∷ xs) (y ∷ ys) heads rows =
     let long-x = length-flatten selection_row s x.selected in
     let long-y : length (flatten selection_row s y.selected) ≡ size x.selected = length-flatten selection_row s y.selected ∙ sym sizes in
     let own : flatten selection_row s x.selected ≡ flatten selection_row s y.selected =
-    sym (take_at _ (selection_rows (s + size x.selected) xs) (size x.selected) long-x) ∙ ap (take (size x.selected)) rows ∙ take_at _ _ (size x.selected) long-y in
+    grind (arith, take_at _ (selection_rows (s + size x.selected) xs) (size x.selected) long-x, take_at _ (selection_rows (s + size y.selected) ys) (size x.selected) long-y) in
     let later : selection_rows (s + size x.selected) xs ≡ selection_rows (s + size y.selected) ys =
-    sym (drop_at (flatten selection_row s x.selected) _ (size x.selected) long-x) ∙ ap (drop (size x.selected)) rows ∙ drop_at (flatten selection_row s y.selected) _ (size x.selected) long-y in
+    grind (arith, drop_at _ (selection_rows (s + size x.selected) xs) (size x.selected) long-x, drop_at _ (selection_rows (s + size y.selected) ys) (size x.selected) long-y) in
     let forest = same_forest s x.selected y.selected own sizes in
     let rest = unique_from (s + size x.selected) xs ys (others ∙ ap (λ k. definition_rows k ys) (sym ends)) (later ∙ ap (λ k. selection_rows k ys) (sym ends)) in
-    ap (λ h. record { head = h; selected = x.selected } ∷ xs) head
-    ∙ ap (λ f. record { head = y.head; selected = f } ∷ xs) forest
-    ∙ ap (λ ds. y ∷ ds) rest
+    grind (arith, head, forest, rest)
 
 pub only_one : (ds : List DefinitionRow) (rows : List SelectionRow) (x y : List Definition) → IsDocument ds rows x → IsDocument ds rows y → x ≡ y
 only_one ds rows x y a b = unique_from 0 x y (sym a.heads ∙ b.heads) (sym a.selected ∙ b.selected)

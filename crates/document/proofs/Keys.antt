@@ -6,26 +6,23 @@ use Rattle.document.specs.declared.rows.SelectionRow.{SelectionRow}
 use Rattle.document.specs.declared.handed.sets.SelectionSet.{SelectionSet}
 use Rattle.document.specs.declared.handed.sets.SelectionStep.{SelectionStep}
 use Rattle.document.specs.Rows.{Selection, Head, head_of, definition_row, selections, selection_of, selection_row, is_field}
-use Rattle.document.specs.Sets.{no_row, next_of, step_at, Holds, Follows}
+use Rattle.document.specs.Sets.{no_row, no_definition_row, set_of, next_of, step_at, Holds, Follows}
 use Rattle.document.specs.declared.rows.DefinitionRow.{DefinitionRow}
 use Rattle.document.specs.Document.{Definition, no_definition, definition_rows, selection_rows, AllKeep, IsDocument}
-use Rattle.document.specs.Needs.{way, path_keys, rows_in, keys_in}
-use Rattle.std.proofs.lemmas.List.{at_drop_more, length-append}
+use Rattle.document.specs.Needs.{way, forest_keys, rows_in, keys_in}
+use Rattle.std.proofs.lemmas.List.{at_drop_more, at_drop_all, length-append}
 use Rattle.std.proofs.lemmas.List.Sums.{sum_by-cons}
-use Rattle.document.proofs.Sets.{next_follows, rows_many}
+use Rattle.document.proofs.Sets.{row_holds, next_follows, rows_many}
 
 one_more : (b : Bool) → cond b 1 0 ≤ 1
 one_more true = omega arith
 one_more false = omega arith
 
 -- no row has more than 32
-pub few_keys : (f : Forest Selection) (above : ℕ) → above + depth f ≤ 32 → path_keys above f ≤ 32 * size f
+pub few_keys : (f : Forest Selection) (above : ℕ) → above + depth f ≤ 32 → forest_keys above f ≤ 32 * size f
 few_keys none above shallow = omega arith
 few_keys (row s below after) above shallow =
-    let step = one_more (is_field s) in
-    let lower = few_keys below (way above s) (omega arith) in
-    let later = few_keys after above (omega arith) in
-    omega arith
+    grind (arith, few_keys below (way above s) (let one = one_more (is_field s) in omega arith), few_keys after above (omega arith))
 
 -- a step over a selection of a forest
 pub record Stepped (rows : List SelectionRow) (set : SelectionSet) (g : Forest Selection) (step : SelectionStep) : Type 0 where
@@ -42,7 +39,7 @@ pub record Stepped (rows : List SelectionRow) (set : SelectionSet) (g : Forest S
 
 stepped_at : (rows : List SelectionRow) (set : SelectionSet) (g : Forest Selection) (step : SelectionStep) → step ≡ step_at (get_or rows set.next no_row) set.next set.end
     → Follows rows set g (Some step) → Stepped rows set g step
-stepped_at rows set none step at follows = let z : ◌≡◌ {A = ℕ} 0 1 = cc in absurd (omega arith)
+stepped_at rows set none step at follows = grind arith
 stepped_at rows set (row s below after) step at follows =
     record {
       selection = s;
@@ -52,18 +49,14 @@ stepped_at rows set (row s below after) step at follows =
       own = follows.1;
       beneath = follows.2;
       beyond = follows.3;
-      starts = ap (λ x. x.beneath.next) at;
-      meets = ap (λ x. x.beneath.end) at ∙ sym (ap (λ x. x.after.next) at);
-      ends = ap (λ x. x.after.end) at;
+      starts = grind arith;
+      meets = grind arith;
+      ends = grind arith;
     }
-
-some_step : (b : Bool) (x y : SelectionStep) → Some x ≡ cond b None (Some y) → x ≡ y
-some_step true x y is = let z : ◌≡◌ {A = ℕ} 0 1 = cc in absurd (omega arith)
-some_step false x y is = cc
 
 pub stepped : (rows : List SelectionRow) (set : SelectionSet) (g : Forest Selection) (step : SelectionStep) → Holds rows set g → Some step ≡ next_of rows set → Stepped rows set g step
 stepped rows set g step holds is =
-    stepped_at rows set g step (some_step _ step _ is) (subst (Follows rows set g) (sym is) (next_follows rows set g holds))
+    stepped_at rows set g step (grind arith) (subst (Follows rows set g) (sym is) (next_follows rows set g holds))
 
 -- a set with no next selection stands for no row
 pub ended : (rows : List SelectionRow) (set : SelectionSet) (g : Forest Selection) → Holds rows set g → None ≡ next_of rows set → g ≡ none
@@ -83,7 +76,7 @@ pub record Turned (rows : List SelectionRow) (set : SelectionSet) (above : ℕ) 
   pub beyond : Holds rows step.after after
   pub lower : w + depth below ≤ 32
   pub later : above + depth after ≤ 32
-  pub sums : path_keys above g ≡ w + (path_keys w below + path_keys above after)
+  pub sums : forest_keys above g ≡ w + (forest_keys w below + forest_keys above after)
   pub starts : step.beneath.next ≡ set.next + 1
   pub low : set.next < step.after.next
   pub meets : step.beneath.end ≡ step.after.next
@@ -105,7 +98,7 @@ turned rows set above g step w holds shallow is wide =
       beyond = st.beyond;
       lower = omega arith;
       later = omega arith;
-      sums = ap (path_keys above) st.is ∙ ap (λ x. x + (path_keys x st.below + path_keys above st.after)) (sym own);
+      sums = grind (arith, st.is, own);
       starts = st.starts;
       low = omega (arith, st.starts, st.meets, st.beneath.stand.ends);
       meets = st.meets;
@@ -114,47 +107,52 @@ turned rows set above g step w holds shallow is wide =
     }
 
 -- the keys of a set of few rows
-pub set_keys : (rows : List SelectionRow) (set : SelectionSet) (above : ℕ) (f : Forest Selection) → length rows ≤ 4096 → Holds rows set f → above + depth f ≤ 32 → path_keys above f ≤ 131072
-set_keys rows set above f few holds shallow =
-    let bound = few_keys f above shallow in
-    omega (arith, holds.stand.ends, holds.within)
+pub set_keys : (rows : List SelectionRow) (set : SelectionSet) (above : ℕ) (f : Forest Selection) → length rows ≤ 4096 → Holds rows set f → above + depth f ≤ 32 → forest_keys above f ≤ 131072
+set_keys rows set above f few holds shallow = omega (arith, few_keys f above shallow, holds.stand.ends, holds.within)
 
 module _ (rows : List SelectionRow) where
   -- no document of few rows has more than 32 for each
   few_in : (s : ℕ) (docs : List Definition) → AllKeep docs → keys_in docs ≤ 32 * rows_in docs
   few_in s [] keep = omega arith
-  few_in s (d ∷ docs) keep =
-      let own = few_keys d.selected 0 (omega (arith, keep.0.shallow)) in
-      let rest = few_in s docs keep.1 in
-      omega arith
+  few_in s (d ∷ docs) keep = grind (arith, few_keys d.selected 0 (omega (arith, keep.0.shallow)), few_in s docs keep.1)
 
   pub all_rows : (s : ℕ) (docs : List Definition) → length (selection_rows s docs) ≡ rows_in docs
   all_rows s [] = refl
   all_rows s (d ∷ docs) =
-      let long = length-flatten selection_row s d.selected in
-      let rest = all_rows (s + size d.selected) docs in
-      length-append (flatten selection_row s d.selected) (selection_rows (s + size d.selected) docs) ∙ omega arith
-
-  -- one definition more
-  pub keys_more : (docs : List Definition) (i : ℕ) → i < length docs → keys_in (drop i docs) ≡ path_keys 0 (get_or docs i no_definition).selected + keys_in (drop (i + 1) docs)
-  keys_more docs i low = at_drop_more keys_in docs i no_definition low
+      grind (arith, length-flatten selection_row s d.selected, all_rows (s + size d.selected) docs, length-append (flatten selection_row s d.selected) (selection_rows (s + size d.selected) docs))
 
   shallow_at : (docs : List Definition) (i : ℕ) → i < length docs → AllKeep docs → depth (get_or docs i no_definition).selected ≤ 32
   shallow_at [] i low keep = absurd (omega arith)
   shallow_at (d ∷ docs) zero low keep = keep.0.shallow
   shallow_at (d ∷ docs) (suc i) low keep = shallow_at docs i (omega arith) keep.1
 
-  pub document_shallow : (ds : List DefinitionRow) (docs : List Definition) (i : ℕ) → IsDocument ds rows docs → i < length docs → 0 + depth (get_or docs i no_definition).selected ≤ 32
-  document_shallow ds docs i is low = let d = shallow_at docs i low is.keep in omega arith
-
-  pub document_keys : (ds : List DefinitionRow) (docs : List Definition) → IsDocument ds rows docs → keys_in docs ≤ 131072
-  document_keys ds docs is =
-      let bound = few_in 0 docs is.keep in
-      let total = ap length is.selected ∙ all_rows 0 docs in
-      omega (arith, is.short)
+  document_keys : (ds : List DefinitionRow) (docs : List Definition) → IsDocument ds rows docs → keys_in docs ≤ 131072
+  document_keys ds docs is = omega (arith, few_in 0 docs is.keep, ap length is.selected, all_rows 0 docs, is.short)
 
   pub as_many : (ds : List DefinitionRow) (docs : List Definition) → IsDocument ds rows docs → length docs ≡ length ds
   as_many ds docs is = sym (ap length is.heads ∙ rows_many rows 0 docs)
+
+  -- the path keys of the definition at i are those of the forest that its set stands for
+  pub record KeysAt (docs : List Definition) (i : ℕ) (set : SelectionSet) : Type 0 where
+    pub holds : Holds rows set (get_or docs i no_definition).selected
+    pub shallow : 0 + depth (get_or docs i no_definition).selected ≤ 32
+    pub more : keys_in (drop i docs) ≡ forest_keys 0 (get_or docs i no_definition).selected + keys_in (drop (i + 1) docs)
+    pub few : keys_in docs ≤ 131072
+
+  pub keys_at : (ds : List DefinitionRow) (docs : List Definition) (i : ℕ) (set : SelectionSet) → IsDocument ds rows docs → i < length ds
+      → set ≡ set_of (get_or ds i no_definition_row).first (get_or ds i no_definition_row).end → KeysAt docs i set
+  keys_at ds docs i set is low at =
+      let inside : i < length docs = omega (arith, as_many ds docs is) in
+      record {
+        holds = rw at (row_holds rows ds docs i is low);
+        shallow = omega (arith, shallow_at docs i inside is.keep);
+        more = at_drop_more keys_in docs i no_definition inside;
+        few = document_keys ds docs is;
+      }
+
+  -- past the last definition there are none
+  pub keys_past : (ds : List DefinitionRow) (docs : List Definition) (i : ℕ) → IsDocument ds rows docs → length ds ≤ i → keys_in (drop i docs) ≡ 0
+  keys_past ds docs i is high = at_drop_all keys_in docs i (omega (arith, as_many ds docs is))
 
 -- counting rows is counting heads
 pub count_heads : (p : Head → Bool) (s : ℕ) (docs : List Definition) → count_by (λ r. p (head_of r)) (definition_rows s docs) ≡ count_by (λ d. p d.head) docs

@@ -16,15 +16,11 @@ module _ (rows : List SelectionRow) where
   -- the rest of the rows, behind those of the first definition
   behind : (s : ℕ) (d : Definition) (docs : List Definition) → drop s rows ≡ selection_rows s (d ∷ docs) → drop (s + size d.selected) rows ≡ selection_rows (s + size d.selected) docs
   behind s d docs reads =
-      sym (drop-drop (size d.selected) s rows) ∙ ap (drop (size d.selected)) reads
-      ∙ drop_at (flatten selection_row s d.selected) _ (size d.selected) (length-flatten selection_row s d.selected)
+      grind (arith, drop-drop (size d.selected) s rows, drop_at (flatten selection_row s d.selected) (selection_rows (s + size d.selected) docs) (size d.selected) (length-flatten selection_row s d.selected))
 
   inside : (s : ℕ) (d : Definition) (docs : List Definition) → s ≤ length rows → drop s rows ≡ selection_rows s (d ∷ docs) → s + size d.selected ≤ length rows
   inside s d docs low reads =
-      let long = length-flatten selection_row s d.selected in
-      let total = ap length reads ∙ length-append (flatten selection_row s d.selected) (selection_rows (s + size d.selected) docs) in
-      let left = length-drop s rows in
-      omega arith
+      grind (arith, length-flatten selection_row s d.selected, length-append (flatten selection_row s d.selected) (selection_rows (s + size d.selected) docs), length-drop s rows)
 
   first_holds : (s : ℕ) (d : Definition) (docs : List Definition) → s ≤ length rows → drop s rows ≡ selection_rows s (d ∷ docs) → Holds rows (set_of s (s + size d.selected)) d.selected
   first_holds s d docs low reads =
@@ -48,16 +44,13 @@ module _ (rows : List SelectionRow) where
   pub row_holds : (ds : List DefinitionRow) (docs : List Definition) (k : ℕ) → IsDocument ds rows docs → k < length ds
       → Holds rows (set_of (get_or ds k no_definition_row).first (get_or ds k no_definition_row).end) (get_or docs k no_definition).selected
   row_holds ds docs k is low =
-      let at : k < length (definition_rows 0 docs) = subst (λ (xs : List DefinitionRow). k < length xs) is.heads low in
-      subst (λ (xs : List DefinitionRow). Holds rows (set_of (get_or xs k no_definition_row).first (get_or xs k no_definition_row).end) (get_or docs k no_definition).selected)
-      (sym is.heads) (each_holds 0 docs k (omega arith) is.selected at)
+      rw is.heads (each_holds 0 docs k (omega arith) is.selected (omega (arith, ap length is.heads)))
 
   -- past the last definition nothing stands
   pub past_holds : (ds : List DefinitionRow) (docs : List Definition) (k : ℕ) → IsDocument ds rows docs → length ds ≤ k → Holds rows (set_of 0 0) (get_or docs k no_definition).selected
   past_holds ds docs k is high =
-      let many : length docs ≤ k = let m = rows_many 0 docs in let l = ap length is.heads in omega arith in
-      let empty : Holds rows (set_of 0 0) none = record { stand = record { ends = refl; reads = refl }; within = omega arith } in
-      subst (λ (d : Definition). Holds rows (set_of 0 0) d.selected) (sym (get_or_past docs k no_definition many)) empty
+      let many : length docs ≤ k = omega (arith, rows_many 0 docs, ap length is.heads) in
+      rw (get_or_past docs k no_definition many) (record { stand = record { ends = refl; reads = refl }; within = omega arith })
 
   -- what is read of a set is the first row of its forest
   pub next_follows : (set : SelectionSet) (f : Forest Selection) → Holds rows set f → Follows rows set f (next_of rows set)
@@ -70,12 +63,11 @@ module _ (rows : List SelectionRow) where
       let within = h.within in
       let o = opened selections rows i e no_row (row s below after) low (omega arith) h.stand in
       let same : row s below after ≡ row (selection_of (get_or rows i no_row)) o.below o.after = o.is in
-      let own : s ≡ selection_of (get_or rows i no_row) = cc in
       let lower : below ≡ o.below = cc in
       let later : after ≡ o.after = cc in
       let here : Follows rows set (row s below after) (Some (step_at (get_or rows i no_row) i e)) = (
         refl,
-        sym own,
+        cc,
         record { stand = subst (Stand selections rows (i + 1) (get_or rows i no_row).end) (sym lower) o.beneath; within = omega (arith, o.high) },
         record { stand = subst (Stand selections rows (get_or rows i no_row).end e) (sym later) o.beyond; within = within },
       ) in

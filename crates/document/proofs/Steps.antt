@@ -1,9 +1,9 @@
 -- The steps of the check: one definition more.
-use Rattle.std.proofs.Common.{◌≡◌, ℕ, zero, suc, ◌+◌, ◌<◌, ◌≤◌, min, Bool, true, false, cond, not, ◌&&◌, ◌||◌, eqb, ltb, List, [], ◌∷◌, length, get_or, drop, Some, None, Ok, Err, Option, sym, refl, ap, ◌∙◌, ⊎_elim, arith}
+use Rattle.std.proofs.Common.{◌≡◌, ℕ, zero, suc, ◌+◌, ◌<◌, ◌≤◌, min, Bool, true, false, cond, not, ◌&&◌, ◌||◌, eqb, ltb, List, [], ◌∷◌, length, get_or, drop, Some, None, Ok, Err, Option, sym, refl, ap, ◌∙◌, arith}
 use Rattle.std.proofs.lemmas.List.{at_drop_more}
-use Rattle.std.proofs.lemmas.Bool.{eq-eqb, ne_eqb, eqb-true, not-false, cases_eq, or_parts, ltb-false, false≢true}
+use Rattle.std.proofs.lemmas.Bool.{eqb-true, not-false, or_parts, ltb-false, false≢true}
 use Rattle.refusal.specs.Firsts.{at_row, or_else, verdict_of}
-use Rattle.refusal.proofs.Firsts.{at_row_none, verdict_ok, verdict_err}
+use Rattle.refusal.proofs.Firsts.{at_row_none, verdict_err}
 use Rattle.layout.specs.declared.row.RowFault.{RowFault}
 use Rattle.layout.specs.declared.row.RowFault.TheVariants.{NameMissing, Broken}
 use Rattle.layout.specs.declared.row.RowView.{RowView}
@@ -19,25 +19,19 @@ use Rattle.document.specs.Verdict.{misplaced, definition_fault, definitions_faul
 -- nothing is left behind the last
 nil_behind : {X : Type 0} (xs : List X) (n : ℕ) → n ≤ length xs → is_nil (drop n xs) ≡ eqb n (length xs)
 nil_behind [] zero low = refl
-nil_behind (x ∷ xs) zero low = sym (ne_eqb 0 (suc (length xs)) (λ is. omega arith))
-nil_behind [] (suc n) low = absurd (omega arith)
+nil_behind (x ∷ xs) zero low = grind arith
+nil_behind [] (suc n) low = grind arith
 nil_behind (x ∷ xs) (suc n) low = nil_behind xs n (omega arith) ∙ same n (length xs)
   where
     same : (a b : ℕ) → eqb a b ≡ eqb (suc a) (suc b)
-    same a b =
-        ⊎_elim
-        (λ (is : a ≡ b). eq-eqb a b is ∙ sym (eq-eqb (suc a) (suc b) (ap suc is)))
-        (λ (off : a ≡ b → ⊥). ne_eqb a b off ∙ sym (ne_eqb (suc a) (suc b) (λ is. off (omega arith))))
-        (cases_eq a b)
+    same a b = grind arith
 
 -- one definition more
 pub definitions_step : (rows start i : ℕ) (ds : List DefinitionRow) → i < length ds
     → definitions_fault rows start i (drop i ds)
     ≡ at_row InDefinitions i (definition_fault (get_or ds i no_definition_row) start (eqb (i + 1) (length ds)) rows) (definitions_fault rows (get_or ds i no_definition_row).end (i + 1) (drop (i + 1) ds))
 definitions_step rows start i ds low =
-    let d = get_or ds i no_definition_row in
-    at_drop_more (definitions_fault rows start i) ds i no_definition_row low
-    ∙ ap (λ last. at_row InDefinitions i (definition_fault d start last rows) (definitions_fault rows d.end (i + 1) (drop (i + 1) ds))) (nil_behind ds (i + 1) (omega arith))
+    grind (arith, at_drop_more (definitions_fault rows start i) ds i no_definition_row low, nil_behind ds (i + 1) (omega arith))
 
 -- the check has come to the definition d at i: it has a fault, ..
 pub definition_here : (rows start i : ℕ) (ds : List DefinitionRow) (d : DefinitionRow) (f : RowFault) (all : Option DocumentFault) → i < length ds → d ≡ get_or ds i no_definition_row
@@ -53,11 +47,7 @@ definition_here rows start i ds d f all low is whole bad =
 pub definition_on : (rows start i : ℕ) (ds : List DefinitionRow) (d : DefinitionRow) (all : Option DocumentFault) → i < length ds → d ≡ get_or ds i no_definition_row
     → definitions_fault rows start i (drop i ds) ≡ all → Ok tt ≡ verdict_of (definition_fault d start (eqb (i + 1) (length ds)) rows)
     → definitions_fault rows d.end (i + 1) (drop (i + 1) ds) ≡ all
-definition_on rows start i ds d all low is whole good =
-    let step = definitions_step rows start i ds low in
-    let own = ap (λ x. definition_fault x start (eqb (i + 1) (length ds)) rows) (sym is) ∙ verdict_ok _ (sym good) in
-    ap (λ x. definitions_fault rows x.end (i + 1) (drop (i + 1) ds)) is
-    ∙ sym (ap (λ x. at_row InDefinitions i x (definitions_fault rows (get_or ds i no_definition_row).end (i + 1) (drop (i + 1) ds))) own) ∙ sym step ∙ whole
+definition_on rows start i ds d all low is whole good = grind (arith, definitions_step rows start i ds low)
 
 -- the rows of one definition more
 pub rows_step : (views : List RowView) (i : ℕ) (ds : List DefinitionRow) → i < length ds
@@ -76,8 +66,8 @@ pub record Placed (d : DefinitionRow) (start : ℕ) (last : Bool) (rows : ℕ) :
   pub bare : is_type_system (head_of d) ≡ true → d.first ≡ d.end
 
 no_some : (a b : Bool) → cond a (Some NameMissing) (cond b (Some Broken) None) ≡ None → (a ≡ false) × (b ≡ false)
-no_some true b is = let z : ◌≡◌ {A = ℕ} 0 1 = cc in absurd (omega arith)
-no_some false true is = let z : ◌≡◌ {A = ℕ} 0 1 = cc in absurd (omega arith)
+no_some true b is = grind arith
+no_some false true is = grind arith
 no_some false false is = (refl, refl)
 
 -- where a test comes out false that is to hold under a premise, it holds under it
@@ -115,7 +105,4 @@ next_placed rows start i ds low fine =
 -- the search in a range that is in place
 pub range_search : (views : List RowView) (d : DefinitionRow) (rows start : ℕ) (last : Bool) (r : Option Misfit) → Placed d start last rows
     → r ≡ first_misfit views (min d.first (min d.end rows)) (min d.end rows) 32 → r ≡ first_misfit views d.first d.end 32
-range_search views d rows start last r at is =
-    let end : min d.end rows ≡ d.end = omega (arith, at.inside) in
-    let first : min d.first (min d.end rows) ≡ d.first = omega (arith, at.inside, at.forward) in
-    is ∙ ap (λ i. first_misfit views i (min d.end rows) 32) first ∙ ap (λ e. first_misfit views d.first e 32) end
+range_search views d rows start last r at is = grind (arith, at.inside, at.forward)

@@ -11,9 +11,9 @@ way above s = above + cond (is_field s) 1 0
 
 -- the path keys of selections around which so many fields are open: for each row one for each field on the way down to
 -- it, itself counted
-abbrev pub path_keys : ℕ → Forest Selection → ℕ
-path_keys above none = 0
-path_keys above (row s below after) = way above s + (path_keys (way above s) below + path_keys above after)
+abbrev pub forest_keys : ℕ → Forest Selection → ℕ
+forest_keys above none = 0
+forest_keys above (row s below after) = way above s + (forest_keys (way above s) below + forest_keys above after)
 
 -- all rows of a document
 abbrev pub rows_in : List Definition → ℕ
@@ -23,7 +23,7 @@ rows_in (d ∷ ds) = size d.selected + rows_in ds
 -- all path keys of a document
 abbrev pub keys_in : List Definition → ℕ
 keys_in [] = 0
-keys_in (d ∷ ds) = path_keys 0 d.selected + keys_in ds
+keys_in (d ∷ ds) = forest_keys 0 d.selected + keys_in ds
 
 -- one place for each named operation, fragment and row; errors for twice the definitions plus the rows; the path keys
 abbrev pub needs_of : List Definition → Needs

@@ -1,12 +1,12 @@
-// Whether two tables are a document, and else their first fault.
+// Whether definitions are in order, and tables short enough; else the first fault.
 ghost use Rattle.std.specs.Prelude.{◌≡◌, ℕ, ◌≤◌, Bool, not, map, length, None};
 ghost use Rattle.refusal.specs.Firsts.{verdict_of};
 ghost use Rattle.document.specs.Rows.{selection_view};
 ghost use Rattle.document.specs.Verdict.{misplaced, definition_fault, definitions_fault, rows_fault, size_fault, orphan_fault, document_fault};
 
 use crate::fault::DocumentFault;
-use crate::rows::{DefinitionRow, SelectionRow};
-use layout::{RowFault, check_range};
+use crate::rows::DefinitionRow;
+use layout::RowFault;
 
 /// How many definitions and selection rows a document holds, and how deep selections stand.
 pub const MAX_DEFINITIONS: usize = 256;
@@ -44,8 +44,8 @@ fn check_definition(
     Ok(())
 }
 
-// Whether the definitions are in order.
-fn check_definitions(definitions: &[DefinitionRow], rows: usize) -> Result<(), DocumentFault>
+/// Whether the definitions are in order, for so many rows.
+pub fn check_definitions(definitions: &[DefinitionRow], rows: usize) -> Result<(), DocumentFault>
     requires { length definitions.now ≤ 256 }
     ensures { result ≡ verdict_of (definitions_fault rows 0 0 definitions.now) }
 {
@@ -61,30 +61,6 @@ fn check_definitions(definitions: &[DefinitionRow], rows: usize) -> Result<(), D
     Ok(())
 }
 
-// Whether the rows are in order, whose ranges the definitions tell.
-fn check_rows(definitions: &[DefinitionRow], rows: &[SelectionRow]) -> Result<(), DocumentFault>
-    requires few { length rows.now ≤ 4096 }
-    requires ranges { definitions_fault (length rows.now) 0 0 definitions.now ≡ None }
-    ensures { result ≡ verdict_of (rows_fault (map selection_view rows.now) definitions.now) }
-{
-    for row in definitions {
-        check_range(rows, row.first as usize, row.end as usize, MAX_DEPTH).map_err(
-            |misfit| DocumentFault::InRows(misfit.fault, misfit.row as u32),
-        )?;
-    }
-    Ok(())
-}
-
-// Whether each row belongs to a definition.
-fn check_owner(definitions: &[DefinitionRow], rows: &[SelectionRow]) -> Result<(), DocumentFault>
-    ensures { result ≡ verdict_of (orphan_fault definitions.now rows.now) }
-{
-    if definitions.is_empty() && !rows.is_empty() {
-        return Err(DocumentFault::NoDefinition);
-    }
-    Ok(())
-}
-
 /// Whether tables of these lengths are short enough.
 pub fn check_sizes(definitions: usize, rows: usize) -> Result<(), DocumentFault>
     ensures { result ≡ verdict_of (size_fault definitions rows) }
@@ -96,17 +72,4 @@ pub fn check_sizes(definitions: usize, rows: usize) -> Result<(), DocumentFault>
         return Err(DocumentFault::TooManyRows);
     }
     Ok(())
-}
-
-// Whether the tables are a document: sizes first, then definitions, then rows.
-pub fn check_tables(
-    definitions: &[DefinitionRow],
-    rows: &[SelectionRow],
-) -> Result<(), DocumentFault>
-    ensures { result ≡ verdict_of (document_fault definitions.now rows.now) }
-{
-    check_sizes(definitions.len(), rows.len())?;
-    check_owner(definitions, rows)?;
-    check_definitions(definitions, rows.len())?;
-    check_rows(definitions, rows)
 }

@@ -7,6 +7,7 @@ use crate::kinds::{DefinitionKind, SelectionKind};
 use layout::{Row, RowView};
 
 /// A definition: an operation (kind 1), a fragment (2), or a part of the type system (3 to 17).
+// Kept, the kinds of rows are numbers: so they are handed over, and may be of no kind.
 #[derive(Clone, Copy)]
 pub struct DefinitionRow {
     pub kind: u32,

@@ -14,3 +14,5 @@ mod readings;
 mod row_faults;
 #[cfg(test)]
 mod tables;
+#[cfg(test)]
+mod words;

@@ -3,17 +3,15 @@ use crate::tables::{
     BROKEN, FINE, QUERY, TOO_DEEP, TOO_MANY_DEFINITIONS, TOO_MANY_ROWS, UNNAMED, Verdicts, chain,
     definition, flat, refused, verdicts,
 };
-use document::DefinitionRow;
+use document::{DefinitionRow, SelectionRow};
 use std::alloc::{AllocError, Global};
 use std::test::Fail;
 
 // The refusal of a chain of so many rows, the last of which has this kind and name.
 fn with_last(heap: Global, count: u16, kind: u32, name: u32) -> Result<Verdicts, AllocError> {
     let mut rows = chain(heap, count)?;
-    if let Some(mut last) = rows.pop() {
-        last.kind = kind;
-        last.name = name;
-        rows.push(last)?;
+    if let Some(last) = rows.pop() {
+        rows.push(SelectionRow { kind, name, ..last })?;
     }
     let all = [definition(QUERY, 0, u32::from(count))];
     Ok(verdicts(&all, rows.as_slice()))

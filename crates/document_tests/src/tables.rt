@@ -31,32 +31,54 @@ pub const QUERY: DefinitionMembers = [1, 0, 0, 0, 0, 0, 0, 0, 0];
 pub const FIELD: SelectionMembers = [1, 9, 0, 0, 0, 0, 0, 0, 0];
 
 pub fn definition(members: DefinitionMembers, first: u32, end: u32) -> DefinitionRow {
+    let [
+        kind,
+        operation_type,
+        name,
+        condition,
+        variables,
+        directives,
+        location,
+        name_location,
+        condition_location,
+    ] = members;
     DefinitionRow {
-        kind: members[0],
-        operation_type: members[1],
-        name: members[2],
-        condition: members[3],
-        variables: members[4],
-        directives: members[5],
-        location: members[6],
-        name_location: members[7],
-        condition_location: members[8],
+        kind,
+        operation_type,
+        name,
+        condition,
+        variables,
+        directives,
+        location,
+        name_location,
+        condition_location,
         first,
         end,
     }
 }
 
 pub fn selection(members: SelectionMembers, end: u32) -> SelectionRow {
+    let [
+        kind,
+        name,
+        alias,
+        condition,
+        arguments,
+        directives,
+        location,
+        name_location,
+        condition_location,
+    ] = members;
     SelectionRow {
-        kind: members[0],
-        name: members[1],
-        alias: members[2],
-        condition: members[3],
-        arguments: members[4],
-        directives: members[5],
-        location: members[6],
-        name_location: members[7],
-        condition_location: members[8],
+        kind,
+        name,
+        alias,
+        condition,
+        arguments,
+        directives,
+        location,
+        name_location,
+        condition_location,
         end,
     }
 }

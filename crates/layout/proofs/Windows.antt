@@ -1,13 +1,12 @@
 -- A row in a range, and in the smaller range beneath a row: what encloses it, how deep it stands, what is wrong with it.
-use Rattle.std.proofs.Common.{◌≡◌, ℕ, zero, suc, ◌+◌, ◌-◌, ◌<◌, ◌≤◌, Bool, true, false, cond, not, ◌&&◌, eqb, ltb, leb, List, get_or, IfErr, Some, None, Ok, Err, Option, Result, sym, refl, ap, ◌∙◌, subst, ⊎_elim, arith}
-use Rattle.std.proofs.lemmas.Bool.{cond-true, cond-false, cond_both, lt-ltb, le-ltb, le-leb, lt-leb, leb-false, ltb-false, eqb-true, eqb-false, eq-eqb, ne_eqb, or_parts, or_from, and_cases, and_left, and_right, not_from_true, not-false, cases_eq, cases_lt, cases_Bool, false≢true}
+use Rattle.std.proofs.Common.{◌≡◌, ℕ, zero, suc, ◌+◌, ◌-◌, ◌<◌, ◌≤◌, Bool, true, false, eqb, ltb, leb, List, get_or, IfErr, Some, None, Ok, Err, Option, Result, sym, refl, ap, ◌∙◌, subst, ⊎_elim, arith}
+use Rattle.std.proofs.lemmas.Bool.{lt-ltb, eqb-false, cases_eq, cases_lt}
 use Rattle.refusal.specs.Firsts.{at_row, first_fault, or_else, verdict_of}
 use Rattle.refusal.proofs.Firsts.{verdict_ok, verdict_err, fault_next, fault_here, first_same, first_parts, no_fault}
 use Rattle.layout.specs.declared.row.RowFault.{RowFault}
-use Rattle.layout.specs.declared.row.RowFault.TheVariants.{NameMissing, Broken, TooDeep}
 use Rattle.layout.specs.declared.row.RowView.{RowView}
 use Rattle.layout.specs.declared.row.Misfit.{Misfit}
-use Rattle.layout.specs.Places.{no_view, end_at, open_at, enclosing_end, breaks, own_fault, fault_in, misfit, first_misfit}
+use Rattle.layout.specs.Places.{no_view, end_at, open_at, enclosing_end, own_fault, fault_in, misfit, first_misfit}
 
 -- what it says of a row that nothing is wrong with it
 pub record Fits (view : RowView) (k bound : ℕ) (deep : Bool) : Type 0 where
@@ -18,107 +17,56 @@ pub record Fits (view : RowView) (k bound : ℕ) (deep : Bool) : Type 0 where
   pub leaf : view.leaf ≡ true → view.end ≡ k + 1
   pub shallow : deep ≡ false
 
-no_some : (a b c : Bool) → cond a (Some NameMissing) (cond b (Some Broken) (cond c (Some TooDeep) None)) ≡ None → (a ≡ false) × (b ≡ false) × (c ≡ false)
-no_some true b c is = let z : ◌≡◌ {A = ℕ} 0 1 = cc in absurd (omega arith)
-no_some false true c is = let z : ◌≡◌ {A = ℕ} 0 1 = cc in absurd (omega arith)
-no_some false false true is = let z : ◌≡◌ {A = ℕ} 0 1 = cc in absurd (omega arith)
-no_some false false false is = (refl, refl, refl)
-
 pub fits : (view : RowView) (k bound : ℕ) (deep : Bool) → own_fault view k bound deep ≡ None → Fits view k bound deep
-fits view k bound deep fine =
-    let all = no_some view.unnamed (breaks view k bound) deep fine in
-    let first = or_parts view.broken _ all.1 in
-    let second = or_parts (leb view.end k) _ first.1 in
-    let third = or_parts (ltb bound view.end) _ second.1 in
-    record {
-      named = all.0;
-      whole = first.0;
-      above = leb-false view.end k second.0;
-      inside = ltb-false bound view.end third.0;
-      leaf = λ is_IsLeaf.
-          ⊎_elim (λ off. absurd (false≢true (sym off ∙ is_IsLeaf))) (λ same. eqb-true view.end (k + 1) (not-false _ same)) (and_cases view.leaf _ third.1);
-      shallow = all.2;
-    }
+fits view k bound deep fine = grind arith
 
 -- the other way round
 pub fine : (view : RowView) (k bound : ℕ) (deep : Bool) → Fits view k bound deep → own_fault view k bound deep ≡ None
-fine view k bound deep fit =
-    let last : (view.leaf && not (eqb view.end (k + 1))) ≡ false =
-    ⊎_elim
-    (λ (is : view.leaf ≡ true). and_right _ _ (not_from_true _ (eq-eqb _ _ (fit.leaf is))))
-    (λ (off : view.leaf ≡ false). and_left _ _ off)
-    (cases_Bool view.leaf) in
-    cond-false _ _ _ fit.named
-    ∙ cond-false _ _ _ (or_from _ _ fit.whole (or_from _ _ (lt-leb _ _ fit.above) (or_from _ _ (le-ltb _ _ fit.inside) last)))
-    ∙ cond-false _ _ _ fit.shallow
+fine view k bound deep fit = grind arith
 
 module _ (views : List RowView) where
   -- rows that end at k or before it are not open there, and enclose nothing
   none_open : (k first n : ℕ) → ((m : ℕ) → m < n → end_at views (first + m) ≤ k) → open_at views k first n ≡ 0
   none_open k first zero closed = refl
-  none_open k first (suc n) closed =
-      let here = le-ltb k (end_at views (first + n)) (closed n (omega arith)) in
-      let rest = none_open k first n (λ m low. closed m (omega arith)) in
-      ap (λ b. cond b 1 0 + open_at views k first n) here ∙ omega arith
+  none_open k first (suc n) closed = grind (arith, closed n, none_open k first n (λ m low. closed m (omega arith)))
 
   none_enclose : (k first n end : ℕ) → ((m : ℕ) → m < n → end_at views (first + m) ≤ k) → enclosing_end views k first n end ≡ end
   none_enclose k first zero end closed = refl
-  none_enclose k first (suc n) end closed =
-      cond-false _ _ _ (le-ltb k (end_at views (first + n)) (closed n (omega arith))) ∙ none_enclose k first n end (λ m low. closed m (omega arith))
+  none_enclose k first (suc n) end closed = grind (arith, closed n, none_enclose k first n end (λ m low. closed m (omega arith)))
 
   -- what encloses a row ends where the range ends, or before
   enclosed : (k first n end : ℕ) → ((m : ℕ) → m < n → end_at views (first + m) ≤ end) → enclosing_end views k first n end ≤ end
   enclosed k first zero end within = omega arith
-  enclosed k first (suc n) end within =
-      cond_both (ltb k (end_at views (first + n))) (end_at views (first + n)) (enclosing_end views k first n end) (λ x. x ≤ end)
-      (λ _. within n (omega arith)) (λ _. enclosed k first n end (λ m low. within m (omega arith)))
+  enclosed k first (suc n) end within = grind (arith, within n, enclosed k first n end (λ m low. within m (omega arith)))
 
   -- two runs of rows
   open_parts : (k first a b : ℕ) → open_at views k first (a + b) ≡ open_at views k (first + a) b + open_at views k first a
-  open_parts k first a zero =
-      let same : a + 0 ≡ a = omega arith in
-      let e : open_at views k first (a + 0) ≡ open_at views k first a = ap (open_at views k first) same in
-      omega arith
+  open_parts k first a zero = grind arith
   open_parts k first a (suc b) =
       let more : a + suc b ≡ suc (a + b) = omega arith in
       let at : first + (a + b) ≡ first + a + b = omega arith in
-      let rest = open_parts k first a b in
-      ap (open_at views k first) more ∙ ap (λ j. cond (ltb k (end_at views j)) 1 0 + open_at views k first (a + b)) at ∙ omega arith
+      rw (more, at) (grind (arith, open_parts k first a b))
 
   enclose_parts : (k first a b end : ℕ) → enclosing_end views k first (a + b) end ≡ enclosing_end views k (first + a) b (enclosing_end views k first a end)
   enclose_parts k first a zero end = ap (λ n. enclosing_end views k first n end) (omega arith)
   enclose_parts k first a (suc b) end =
       let more : a + suc b ≡ suc (a + b) = omega arith in
       let at : first + (a + b) ≡ first + a + b = omega arith in
-      ap (λ n. enclosing_end views k first n end) more
-      ∙ ap (λ j. cond (ltb k (end_at views j)) (end_at views j) (enclosing_end views k first (a + b) end)) at
-      ∙ ap (λ x. cond (ltb k (end_at views (first + a + b))) (end_at views (first + a + b)) x) (enclose_parts k first a b end)
+      rw (more, at, enclose_parts k first a b end) refl
 
   -- all rows from `start` up to i end there or before
   abbrev pub Closed : ℕ → ℕ → Type 0
   Closed start i = (j : ℕ) → start ≤ j → j < i → end_at views j ≤ i
 
   none_left : (room : ℕ) → leb room 0 ≡ eqb room 0
-  none_left room =
-      ⊎_elim
-      (λ (none : room ≡ 0). le-leb room 0 (omega arith) ∙ sym (eq-eqb room 0 none))
-      (λ (some : room ≡ 0 → ⊥). lt-leb room 0 (omega arith) ∙ sym (ne_eqb room 0 some))
-      (cases_eq room 0)
+  none_left room = grind arith
 
   -- the next row directly in the range
   pub fault_next_row : (start end room i : ℕ) → start ≤ i → Closed start i → fault_in views start end room i ≡ own_fault (get_or views i no_view) i end (eqb room 0)
-  fault_next_row start end room i from closed =
-      let before : (m : ℕ) → m < i - start → end_at views (start + m) ≤ i = λ m low. closed (start + m) (omega arith) (omega arith) in
-      ap (λ bound. own_fault (get_or views i no_view) i bound (leb room (open_at views i start (i - start)))) (none_enclose i start (i - start) end before)
-      ∙ ap (λ n. own_fault (get_or views i no_view) i end (leb room n)) (none_open i start (i - start) before)
-      ∙ ap (own_fault (get_or views i no_view) i end) (none_left room)
+  fault_next_row start end room i from closed = grind (arith, closed, none_enclose, none_open, none_left)
 
   one_level : (room n : ℕ) → 0 < room → leb room (n + 1) ≡ leb (room - 1) n
-  one_level room n some =
-      ⊎_elim
-      (λ (few : n < room - 1). lt-leb room (n + 1) (omega arith) ∙ sym (lt-leb (room - 1) n few))
-      (λ (many : room - 1 ≤ n). le-leb room (n + 1) (omega arith) ∙ sym (le-leb (room - 1) n many))
-      (cases_lt n (room - 1))
+  one_level room n some = grind arith
 
   -- a row beneath the next row: the same in the smaller range
   pub fault_beneath : (start end room i k : ℕ) → start ≤ i → Closed start i → 0 < room → i < k → k < end_at views i
@@ -130,37 +78,25 @@ module _ (views : List RowView) where
       let at : start + suc a ≡ i + 1 = omega arith in
       let row : start + a ≡ i = omega arith in
       let before : (m : ℕ) → m < a → end_at views (start + m) ≤ k = λ m less. let e = closed (start + m) (omega arith) (omega arith) in omega arith in
-      let opens : ltb k (end_at views (start + a)) ≡ true = ap (λ j. ltb k (end_at views j)) row ∙ lt-ltb k (end_at views i) high in
-      let bound : enclosing_end views k start (k - start) end ≡ enclosing_end views k (i + 1) b (end_at views i) =
-      ap (λ n. enclosing_end views k start n end) gap ∙ enclose_parts k start (suc a) b end
-      ∙ ap (λ j. enclosing_end views k j b (enclosing_end views k start (suc a) end)) at
-      ∙ ap (enclosing_end views k (i + 1) b) (cond-true _ _ _ opens ∙ ap (end_at views) row) in
-      let first : open_at views k start (suc a) ≡ 1 =
-      ap (λ t. cond t 1 0 + open_at views k start a) opens ∙ ap (λ n. 1 + n) (none_open k start a before) in
-      let deep : open_at views k start (k - start) ≡ open_at views k (i + 1) b + 1 =
-      ap (open_at views k start) gap ∙ open_parts k start (suc a) b ∙ ap (λ j. open_at views k j b + open_at views k start (suc a)) at
-      ∙ ap (λ n. open_at views k (i + 1) b + n) first in
-      ap (λ x. own_fault (get_or views k no_view) k x (leb room (open_at views k start (k - start)))) bound
-      ∙ ap (λ n. own_fault (get_or views k no_view) k (enclosing_end views k (i + 1) b (end_at views i)) (leb room n)) deep
-      ∙ ap (own_fault (get_or views k no_view) k (enclosing_end views k (i + 1) b (end_at views i))) (one_level room (open_at views k (i + 1) b) some)
+      let opens : ltb k (end_at views i) ≡ true = lt-ltb k (end_at views i) high in
+      let levels = one_level room (open_at views k (i + 1) b) some in
+      let none = none_open k start a before in
+      let bound = enclose_parts k start (suc a) b end in
+      let deep = open_parts k start (suc a) b in
+      grind arith
 
   -- a row behind closed rows: the same in the range that begins there
   pub fault_behind : (start end room i k : ℕ) → start ≤ i → Closed start i → i ≤ k → fault_in views start end room k ≡ fault_in views i end room k
   fault_behind start end room i k from closed past =
       let a = i - start in
-      let b = k - i in
-      let gap : k - start ≡ a + b = omega arith in
+      let gap : k - start ≡ a + (k - i) = omega arith in
       let at : start + a ≡ i = omega arith in
       let before : (m : ℕ) → m < a → end_at views (start + m) ≤ k = λ m less. let e = closed (start + m) (omega arith) (omega arith) in omega arith in
-      let bound : enclosing_end views k start (k - start) end ≡ enclosing_end views k i b end =
-      ap (λ n. enclosing_end views k start n end) gap ∙ enclose_parts k start a b end
-      ∙ ap (λ j. enclosing_end views k j b (enclosing_end views k start a end)) at
-      ∙ ap (enclosing_end views k i b) (none_enclose k start a end before) in
+      let bound = enclose_parts k start a (k - i) end in
+      let outer = none_enclose k start a end before in
+      let deep = open_parts k start a (k - i) in
       let none = none_open k start a before in
-      let deep : open_at views k start (k - start) ≡ open_at views k i b =
-      ap (open_at views k start) gap ∙ open_parts k start a b ∙ ap (λ j. open_at views k j b + open_at views k start a) at ∙ omega arith in
-      ap (λ x. own_fault (get_or views k no_view) k x (leb room (open_at views k start (k - start)))) bound
-      ∙ ap (λ n. own_fault (get_or views k no_view) k (enclosing_end views k i b end) (leb room n)) deep
+      grind arith
 
   -- rows of a range that fit end within it
   pub within : (first end room n : ℕ) → ((m : ℕ) → m < n → fault_in views first end room (first + m) ≡ None) → (m : ℕ) → m < n → end_at views (first + m) ≤ end
@@ -169,11 +105,8 @@ module _ (views : List RowView) where
       let before = within first end room n (λ j less. fine j (omega arith)) in
       ⊎_elim
       (λ (last : m ≡ n).
-      let count : first + n - first ≡ n = omega arith in
       let fit = fits (get_or views (first + n) no_view) (first + n) _ _ (fine n (omega arith)) in
-      let bound = enclosed (first + n) first (first + n - first) end (λ j less. before j (omega arith)) in
-      let here : end_at views (first + n) ≤ end = omega (arith, fit.inside, bound) in
-      subst (λ (j : ℕ). end_at views (first + j) ≤ end) (sym last) here)
+      grind (arith, fit.inside, enclosed (first + n) first (first + n - first) end (λ j less. before j (omega arith))))
       (λ (other : m ≡ n → ⊥). before m (omega arith))
       (cases_eq m n)
 
@@ -187,13 +120,11 @@ module _ (views : List RowView) where
       let fault = fault_in views start end room in
       let gap : end - (i + 1) ≡ (next - (i + 1)) + (end - next) = omega arith in
       let at : i + 1 + (next - (i + 1)) ≡ next = omega arith in
-      fault_next misfit fault i (end - i) (end - (i + 1)) (omega arith) fine
-      ∙ ap (first_fault misfit fault (i + 1)) gap
-      ∙ first_parts misfit fault (i + 1) (next - (i + 1)) (end - next)
-      ∙ ap (λ j. or_else (first_fault misfit fault (i + 1) (next - (i + 1))) (first_fault misfit fault j (end - next))) at
-      ∙ ap (λ x. or_else x (first_fault misfit fault next (end - next)))
-      (first_same misfit fault (fault_in views (i + 1) next (room - 1)) (i + 1) (next - (i + 1))
-      (λ m less. fault_beneath start end room i (i + 1 + m) from closed some (omega arith) (omega arith)))
+      let here = fault_next misfit fault i (end - i) (end - (i + 1)) (omega arith) fine in
+      let parts = first_parts misfit fault (i + 1) (next - (i + 1)) (end - next) in
+      let beneath = first_same misfit fault (fault_in views (i + 1) next (room - 1)) (i + 1) (next - (i + 1))
+      (λ m less. fault_beneath start end room i (i + 1 + m) from closed some (omega arith) (omega arith)) in
+      grind arith
 
   -- behind a row and what is beneath it all rows so far are closed
   pub closed_next : (start room i : ℕ) → start ≤ i → Closed start i → i < end_at views i
@@ -227,8 +158,7 @@ module _ (views : List RowView) where
     -- the row does not fit
     pub turn_here : (f : RowFault) → Err f ≡ verdict_of (own_fault v i end (eqb room 0)) → Err (misfit f (i + 1)) ≡ verdict_of (first_misfit views start end room)
     turn_here f bad =
-        ap verdict_of
-        (sym (fault_here misfit (fault_in views start end room) i (end - i) (end - (i + 1)) f (omega arith) (own_here ∙ verdict_err _ f (sym bad))) ∙ at.whole)
+        grind (arith, own_here, fault_here misfit (fault_in views start end room) i (end - i) (end - (i + 1)) f (omega arith) (own_here ∙ verdict_err _ f (sym bad)), at.whole)
 
     -- it fits: what is beneath it is searched, then the rest
     turn : Ok tt ≡ verdict_of (own_fault v i end (eqb room 0)) → (r : Option Misfit) → r ≡ first_misfit views (i + 1) v.end (room - 1)
@@ -262,15 +192,12 @@ module _ (views : List RowView) where
 -- the row that is told is one of those searched
 row_by : (i left : ℕ) (m : Misfit) (f : Option RowFault) (rest : Option Misfit) → at_row misfit i f rest ≡ Some m → (rest ≡ Some m → m.row ≤ i + 1 + left) → m.row ≤ i + suc left
 row_by i left m None rest is later = let low = later is in omega arith
-row_by i left m (Some f) rest is later =
-    let told : misfit f (i + 1) ≡ m = cc in
-    let row : i + 1 ≡ m.row = ap (λ x. x.row) told in
-    omega arith
+row_by i left m (Some f) rest is later = grind arith
 
 pub told_row : (fault : ℕ → Option RowFault) (i left : ℕ) (m : Misfit) → first_fault misfit fault i left ≡ Some m → m.row ≤ i + left
-told_row fault i zero m is = let z : ◌≡◌ {A = ℕ} 0 1 = cc in absurd (omega arith)
-told_row fault i (suc left) m is = row_by i left m (fault i) (first_fault misfit fault (i + 1) left) is (told_row fault (i + 1) left m)
+told_row fault i zero m is = grind arith
+told_row fault i (suc left) m is = grind (arith, row_by, told_row fault (i + 1) left m)
 
 pub inside_rows : (fault : ℕ → Option RowFault) (i left n : ℕ) (r : Result Unit Misfit) → i + left ≤ n → r ≡ verdict_of (first_fault misfit fault i left) → IfErr r (λ m. m.row ≤ n)
 inside_rows fault i left n (Ok x) few is = tt
-inside_rows fault i left n (Err m) few is = let low = told_row fault i left m (verdict_err _ m (sym is)) in omega arith
+inside_rows fault i left n (Err m) few is = grind (arith, told_row, verdict_err)

@@ -26,7 +26,7 @@ fn check_row(view: RowView, k: usize, end: usize, room: u32) -> Result<(), RowFa
     Ok(())
 }
 
-// The set's next row stands at the end of the row before it, not at the next place: so no iterator goes over a set.
+// Kept, a loop by hand: the next row of a set stands at the end of the row before it, where no iterator goes.
 fn check_set<R: Row>(rows: &[R], start: usize, end: usize, room: u32) -> Result<(), Misfit>
     requires within { end ≤ length rows.now }
     requires ordered { start ≤ end }

@@ -5,7 +5,7 @@ ghost use Rattle.document.specs.Rows.{Selection, selection_of, head_of, is_fragm
 ghost use Rattle.document.specs.Document.{Definition, IsDocument, ReadsAsNone};
 ghost use Rattle.document.specs.Verdict.{document_fault, told_fault};
 ghost use Rattle.document.specs.Sets.{Holds};
-ghost use Rattle.document.specs.Needs.{way, path_keys, keys_in, needs_of};
+ghost use Rattle.document.specs.Needs.{way, forest_keys, keys_in, needs_of};
 
 use super::Document;
 use super::sets::SelectionSet;
@@ -39,8 +39,9 @@ impl Document<'_> {
     fn path_keys_in_set(&self, set: SelectionSet, above: usize) -> usize
         requires few { length self.now.rows.now ≤ 4096 }
         requires stands { (f : Forest Selection) × Holds self.now.rows.now set f × (above + depth f ≤ 32) }
-        ensures { (f : Forest Selection) → Holds self.now.rows.now set f → result ≡ path_keys above f }
+        ensures { (f : Forest Selection) → Holds self.now.rows.now set f → result ≡ forest_keys above f }
     {
+        // Kept, as at `next_selection`: a set is read step by step.
         let mut total = 0;
         let mut rest = set;
         while let Some(step) = self.next_selection(rest) {
@@ -57,6 +58,7 @@ impl Document<'_> {
         requires lawful { (d : List Definition) × IsDocument self.now.definitions.now self.now.rows.now d }
         ensures { (d : List Definition) → IsDocument self.now.definitions.now self.now.rows.now d → result ≡ keys_in d }
     {
+        // Kept, no `map` and `sum`: each call rests on the definition's own forest, and the chain's proof did not close.
         let mut total = 0;
         for row in self.definitions {
             total += self.path_keys_in_set(row.selections(), 0);

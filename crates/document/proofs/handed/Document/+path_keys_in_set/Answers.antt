@@ -1,5 +1,5 @@
 use Rattle.std.proofs.Common.{refl, ap, arith}
-use Rattle.document.specs.Needs.{path_keys}
+use Rattle.document.specs.Needs.{forest_keys}
 use Rattle.document.proofs.Keys.{same_set, turned, set_keys}
 use Rattle.document.proofs.handed.Document.+path_keys_in_set.Goals as goal
 
@@ -10,7 +10,7 @@ loop-step-init t c =
         f.0,
         f.1,
         f.2,
-        λ g holds. let same = ap (path_keys c.args.above) (same_set c.args.self.now.rows.now c.args.set f.0 g f.1 holds) in omega arith,
+        λ g holds. let same = ap (forest_keys c.args.above) (same_set c.args.self.now.rows.now c.args.set f.0 g f.1 holds) in omega arith,
       ),
       refl,
       omega arith,

@@ -2,7 +2,7 @@ use Rattle.std.proofs.Common.{◌≡◌, ◌+◌, ◌-◌, ◌≤◌}
 use Rattle.layout.specs.Forest.{Forest, depth}
 use Rattle.document.specs.Rows.{Selection}
 use Rattle.document.specs.Sets.{Holds}
-use Rattle.document.specs.Needs.{path_keys}
+use Rattle.document.specs.Needs.{forest_keys}
 use Rattle.document.proofs.handed.Document.+path_keys_in_set.Given as goal
 
 abbrev pub decreases-path_keys_in_set : goal.decreases-path_keys_in_set
@@ -12,7 +12,7 @@ decreases-path_keys_in_set l = l.set.end - l.set.next
 abbrev pub invariant-loop-step : goal.invariant-loop-step
 invariant-loop-step l =
     ((g : Forest Selection) × Holds l.self.rows.now l.rest g × (l.above + depth g ≤ 32)
-    × ((f : Forest Selection) → Holds l.self.rows.now l.initial.rest f → l.total + path_keys l.above g ≡ path_keys l.above f))
+    × ((f : Forest Selection) → Holds l.self.rows.now l.initial.rest f → l.total + forest_keys l.above g ≡ forest_keys l.above f))
     × (l.rest.end ≡ l.initial.rest.end) × (l.initial.rest.next ≤ l.rest.next)
 
 abbrev pub decreases-loop-step : goal.decreases-loop-step

@@ -5,12 +5,12 @@ use Rattle.document.specs.Rows.{selection_view}
 use Rattle.document.specs.Verdict.{in_rows, rows_fault}
 use Rattle.document.specs.Sets.{no_definition_row}
 use Rattle.document.proofs.Steps.{rows_step, next_placed, range_search}
-use Rattle.document.proofs.check.check_rows.Goals as goal
+use Rattle.document.proofs.handed.Document.check_rows.Goals as goal
 
 pub loop-row-preserved : goal.loop-row-preserved
 loop-row-preserved c =
-    let ds = c.args.definitions.now in
-    let rows = c.args.rows.now in
+    let ds = c.args.self.now.definitions.now in
+    let rows = c.args.self.now.rows.now in
     let views = map selection_view rows in
     let i = c.loop-row.row-index in
     let at = next_placed (length rows) c.loop-row.invariant.0.0 i ds c.loop-row-test.true c.loop-row.invariant.0.1 in
