@@ -24,7 +24,11 @@ impl fmt::Display for Shown<'_, '_, DefinitionRow> {
             _ => {
                 let kind = row.kind;
                 write!(f, "type system definition (kind {kind})")?;
-                if row.name == 0 { Ok(()) } else { write!(f, " {name}") }
+                if row.name == 0 {
+                    Ok(())
+                } else {
+                    write!(f, " {name}")
+                }
             }
         }
     }
