@@ -1,7 +1,7 @@
 // Definitions at fault: every rule of the members, the ranges, and which of two faults is told.
 use crate::tables::{
-    BROKEN, DefinitionMembers, FINE, QUERY, UNNAMED, Verdicts, definition, definitions, flat,
-    refused, verdicts,
+    BROKEN, DefinitionMembers, FINE, QUERY, UNNAMED, Verdicts, definition, definitions,
+    each_refused, flat, refused, verdicts,
 };
 use refusal::Reason;
 use std::alloc::{AllocError, Global};
@@ -44,7 +44,7 @@ const MEMBERS: [(DefinitionMembers, Option<Reason>); 25] = [
 // The refusal of three definitions without rows, one of which has these members instead.
 fn with_definition(
     heap: Global,
-    place: u32,
+    place: u16,
     members: DefinitionMembers,
 ) -> Result<Verdicts, AllocError> {
     let mut all = definitions(heap, &[(1, 0, 0, 0), (1, 0, 0, 0), (1, 0, 0, 0)])?;
@@ -56,13 +56,7 @@ fn with_definition(
 
 #[test]
 fn members_at_fault(rt: HostRuntime) -> Result<(), Fail> {
-    for (i, &(members, reason)) in MEMBERS.iter().enumerate() {
-        for place in [0u32, 1, 2] {
-            let verdict = with_definition(rt.alloc(), place, members)?;
-            assert_eq!(rt; verdict, refused(reason, place + 1), "{}", i);
-        }
-    }
-    Ok(())
+    each_refused(&rt, rt.alloc(), &MEMBERS, [0, 1, 2], with_definition)
 }
 
 // The type system's definitions use their name and location only.

@@ -1,7 +1,7 @@
 // Selection rows at fault: every rule of the members, the ends, and which of two faults is told.
 use crate::tables::{
-    BROKEN, FIELD, FINE, QUERY, SelectionMembers, UNNAMED, Verdicts, definition, flat, refused,
-    selection, selections, verdicts,
+    BROKEN, FIELD, FINE, QUERY, SelectionMembers, UNNAMED, Verdicts, definition, each_refused,
+    flat, refused, selection, selections, verdicts,
 };
 use refusal::Reason;
 use std::alloc::{AllocError, Global};
@@ -45,7 +45,7 @@ const MEMBERS: [(SelectionMembers, Option<Reason>); 27] = [
 ];
 
 // The refusal of five fields, one of which has these members instead.
-fn with_row(heap: Global, place: u32, members: SelectionMembers) -> Result<Verdicts, AllocError> {
+fn with_row(heap: Global, place: u16, members: SelectionMembers) -> Result<Verdicts, AllocError> {
     let mut rows = flat(heap, 5)?;
     if let Some(row) = rows.get_mut(place as usize) {
         *row = selection(members, row.end);
@@ -55,13 +55,7 @@ fn with_row(heap: Global, place: u32, members: SelectionMembers) -> Result<Verdi
 
 #[test]
 fn members_at_fault(rt: HostRuntime) -> Result<(), Fail> {
-    for (i, &(members, reason)) in MEMBERS.iter().enumerate() {
-        for place in [0u32, 2, 4] {
-            let verdict = with_row(rt.alloc(), place, members)?;
-            assert_eq!(rt; verdict, refused(reason, place + 1), "{}", i);
-        }
-    }
-    Ok(())
+    each_refused(&rt, rt.alloc(), &MEMBERS, [0, 2, 4], with_row)
 }
 
 // Rows by kind, name and end, and the refusal by reason and row.

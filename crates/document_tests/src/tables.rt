@@ -2,6 +2,8 @@
 use document::{DefinitionRow, Document, SelectionRow};
 use refusal::{Layer, Reason, Refusal};
 use std::alloc::{AllocError, Global};
+use std::process::Abort;
+use std::test::Fail;
 
 // What `check` and `needs` say of two tables: how they are refused, if they are.
 pub type Verdicts = [Option<Refusal>; 2];
@@ -138,4 +140,23 @@ pub fn refused(reason: Option<Reason>, row: u32) -> Verdicts {
         row,
     });
     [refusal; 2]
+}
+
+// Each of these members at each place: refused for its reason at that place's row, by what `verdict` says of it there.
+pub fn each_refused<F: Fn(Global, u16, [u32; 9]) -> Result<Verdicts, AllocError>>(
+    rt: &impl Abort,
+    heap: Global,
+    cases: &[([u32; 9], Option<Reason>)],
+    places: [u16; 3],
+    verdict: F,
+) -> Result<(), Fail>
+    requires { F.IsAlwaysCallable verdict }
+{
+    for (i, &(members, reason)) in cases.iter().enumerate() {
+        for place in places {
+            let told = verdict(heap, place, members)?;
+            assert_eq!(rt; told, refused(reason, u32::from(place) + 1), "{}", i);
+        }
+    }
+    Ok(())
 }

@@ -1,6 +1,7 @@
 // What faults say in words.
-use document::{DefinitionKind, DocumentFault, SelectionKind, UnknownKind};
+use document::{DefinitionKind, DocumentFault, SelectionKind};
 use layout::RowFault;
+use refusal::UnknownNumber;
 use std::test::Fail;
 
 #[test]
@@ -40,9 +41,9 @@ fn words_of_faults(rt: HostRuntime) -> Result<(), Fail> {
 
 #[test]
 fn words_of_unknown_kinds(rt: HostRuntime) -> Result<(), Fail> {
-    assert_eq!(rt; SelectionKind::try_from(4), Err(UnknownKind(4)));
-    assert_eq!(rt; DefinitionKind::try_from(18), Err(UnknownKind(18)));
-    let text = format!(in rt.alloc(); "{}", UnknownKind(18))?;
-    assert_eq!(rt; text.as_str(), "there is no kind 18");
+    assert_eq!(rt; SelectionKind::try_from(4), Err(UnknownNumber(4)));
+    assert_eq!(rt; DefinitionKind::try_from(18), Err(UnknownNumber(18)));
+    let text = format!(in rt.alloc(); "{}", UnknownNumber(18))?;
+    assert_eq!(rt; text.as_str(), "no case has the number 18");
     Ok(())
 }

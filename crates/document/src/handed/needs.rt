@@ -54,8 +54,7 @@ impl Document<'_> {
 
     // The path keys of the document.
     fn path_keys(&self) -> usize
-        requires few { length self.now.rows.now ≤ 4096 }
-        requires lawful { (d : List Definition) × IsDocument self.now.definitions.now self.now.rows.now d }
+        requires { (d : List Definition) × IsDocument self.now.definitions.now self.now.rows.now d }
         ensures { (d : List Definition) → IsDocument self.now.definitions.now self.now.rows.now d → result ≡ keys_in d }
     {
         // Kept, no `map` and `sum`: each call rests on the definition's own forest, and the chain's proof did not close.
