@@ -1,6 +1,6 @@
 // The ordered index slot by slot: where keys go that meet in one slot, around the end too, and which slots are no
 // sound index of the entries beside them.
-use crate::index_limit::{Named, Owned, fill};
+use crate::index_limit::{Named, Owned, fill, in_use};
 use ordered_index::{Entered, Entry, agrees, empty, enter, find, insert};
 use std::alloc::{AllocError, Global};
 use std::process::Abort;
@@ -128,8 +128,8 @@ const BESIDE: [Beside; 21] = [
 fn slots_beside_names(rt: HostRuntime) -> Result<(), Fail> {
     for (i, (names, count, slots, sound)) in BESIDE.iter().enumerate() {
         let entries = named(rt.alloc(), names)?;
-        let in_use = &entries.as_slice()[..(*count).min(entries.len())];
-        assert_eq!(rt; agrees(in_use, slots), *sound, "{}", i);
+        let used = in_use(entries.as_slice(), *count);
+        assert_eq!(rt; agrees(used, slots), *sound, "{}", i);
     }
     Ok(())
 }

@@ -61,6 +61,11 @@ fn fields_from_both_ends(heap: Global, count: u32) -> Result<Vec<Owned>, AllocEr
     Ok(fields)
 }
 
+// The entries in use: the first `count`, or all where there are fewer.
+pub fn in_use<E>(entries: &[E], count: usize) -> &[E] {
+    &entries[..count.min(entries.len())]
+}
+
 // Puts the entries in, each of which is to be new, and checks the index after each.
 pub fn fill<E: Entry>(
     rt: &impl Abort,
@@ -68,7 +73,7 @@ pub fn fill<E: Entry>(
     slots: &mut [u32],
     new: &[E],
 ) -> Result<(), Fail> {
-    assert!(rt; agrees(&entries[..0], slots));
+    assert!(rt; agrees(in_use(entries, 0), slots));
     for (i, entry) in new.iter().enumerate() {
         assert_eq!(rt;
             insert(entries, i, slots, *entry),
@@ -76,7 +81,7 @@ pub fn fill<E: Entry>(
             "{}",
             i
         );
-        assert!(rt; agrees(&entries[..i + 1], slots), "{}", i);
+        assert!(rt; agrees(in_use(entries, i + 1), slots), "{}", i);
     }
     Ok(())
 }
@@ -92,8 +97,8 @@ fn each_at_its_place<E: Entry>(
     let count = present.len();
     for (i, entry) in present.iter().enumerate() {
         let key = entry.key();
-        assert_eq!(rt; find(&entries[..count], slots, &key), Some(i), "{}", i);
-        assert_eq!(rt; find(&entries[..i], slots, &key), None, "{}", i);
+        assert_eq!(rt; find(in_use(entries, count), slots, &key), Some(i), "{}", i);
+        assert_eq!(rt; find(in_use(entries, i), slots, &key), None, "{}", i);
         assert_eq!(rt;
             insert(entries, count, slots, *entry),
             Entered::Present(i),
@@ -101,7 +106,7 @@ fn each_at_its_place<E: Entry>(
             i
         );
         assert_eq!(rt;
-            enter(&entries[..count], slots, &key),
+            enter(in_use(entries, count), slots, &key),
             Entered::Present(i),
             "{}",
             i
@@ -119,9 +124,9 @@ fn all_refused<E: Entry>(
 ) {
     for entry in absent {
         let key = entry.key();
-        assert_eq!(rt; find(&entries[..count], slots, &key), None);
+        assert_eq!(rt; find(in_use(entries, count), slots, &key), None);
         assert_eq!(rt; insert(entries, count, slots, *entry), Entered::Full);
-        assert_eq!(rt; enter(&entries[..count], slots, &key), Entered::Full);
+        assert_eq!(rt; enter(in_use(entries, count), slots, &key), Entered::Full);
     }
 }
 
