@@ -61,6 +61,7 @@ fn fields_that_meet(rt: HostRuntime) -> Result<(), Fail> {
 // With any one slot changed the slots are no sound index: a key is lost, a slot too many is in use, or a slot names
 // a place past the entries.
 fn each_slot_matters(rt: &impl Abort, entries: &[Named], slots: &mut [u32]) -> Result<(), Fail> {
+    // Kept, places by number: the slots are changed and looked at whole in turn.
     for s in 0..slots.len() {
         let held = slots[s];
         for other in [0, 1, 2, 3, 4, 5, 8, u32::MAX] {

@@ -42,23 +42,21 @@ impl Entry for Owned {
 
 // Names from both ends of 32 bits: 0, 4294967295, 1, 4294967294, and so on.
 fn names_from_both_ends(heap: Global, count: u32) -> Result<Vec<Named>, AllocError> {
-    let mut names = Vec::new(heap);
-    for i in 0..count {
-        let name = if i % 2 == 0 { i / 2 } else { u32::MAX - i / 2 };
-        names.push(Named { name })?;
-    }
-    Ok(names)
+    (0..count)
+        .map(|i| Named {
+            name: if i % 2 == 0 { i / 2 } else { u32::MAX - i / 2 },
+        })
+        .collect(heap)
 }
 
 // Fields whose names and owners are from both ends of 32 bits.
 fn fields_from_both_ends(heap: Global, count: u32) -> Result<Vec<Owned>, AllocError> {
-    let mut fields = Vec::new(heap);
-    for i in 0..count {
-        let owner = if i % 2 == 0 { i / 4 } else { u32::MAX - i / 4 };
-        let field = if i % 4 < 2 { 0 } else { u32::MAX };
-        fields.push(Owned { owner, field })?;
-    }
-    Ok(fields)
+    (0..count)
+        .map(|i| Owned {
+            owner: if i % 2 == 0 { i / 4 } else { u32::MAX - i / 4 },
+            field: if i % 4 < 2 { 0 } else { u32::MAX },
+        })
+        .collect(heap)
 }
 
 // The entries in use: the first `count`, or all where there are fewer.

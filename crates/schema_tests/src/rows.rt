@@ -22,27 +22,18 @@ pub const INPUT_OBJECT: u32 = 6;
 
 // Types by name and kind.
 pub fn type_rows(heap: Global, types: &[(u32, u32)]) -> Result<Vec<TypeRow>, AllocError> {
-    let mut rows = Vec::new(heap);
-    for (name, kind) in types {
-        rows.push(TypeRow {
-            name: *name,
-            kind: *kind,
-        })?;
-    }
-    Ok(rows)
+    types
+        .iter()
+        .map(|&(name, kind)| TypeRow { name, kind })
+        .collect(heap)
 }
 
 // Fields by owner, name and inner type.
 pub fn field_rows(heap: Global, fields: &[(u32, u32, u32)]) -> Result<Vec<FieldRow>, AllocError> {
-    let mut rows = Vec::new(heap);
-    for (owner, name, inner) in fields {
-        rows.push(FieldRow {
-            owner: *owner,
-            name: *name,
-            inner: *inner,
-        })?;
-    }
-    Ok(rows)
+    fields
+        .iter()
+        .map(|&(owner, name, inner)| FieldRow { owner, name, inner })
+        .collect(heap)
 }
 
 // The name of the type i, from both ends of 32 bits: 1, 4294967295, 2, 4294967294, and so on.
@@ -56,27 +47,23 @@ fn name_from_both_ends(i: u32) -> u32 {
 
 // So many object types.
 pub fn many_types(heap: Global, count: u32) -> Result<Vec<TypeRow>, AllocError> {
-    let mut rows = Vec::new(heap);
-    for i in 0..count {
-        rows.push(TypeRow {
+    (0..count)
+        .map(|i| TypeRow {
             name: name_from_both_ends(i),
             kind: OBJECT,
-        })?;
-    }
-    Ok(rows)
+        })
+        .collect(heap)
 }
 
 // So many fields, of 1,024 types in turn.
 pub fn many_fields(heap: Global, count: u32) -> Result<Vec<FieldRow>, AllocError> {
-    let mut rows = Vec::new(heap);
-    for i in 0..count {
-        rows.push(FieldRow {
+    (0..count)
+        .map(|i| FieldRow {
             owner: name_from_both_ends(i % 1024),
             name: name_from_both_ends(i / 1024),
             inner: 7,
-        })?;
-    }
-    Ok(rows)
+        })
+        .collect(heap)
 }
 
 // The rows with these tables, and no root types.
