@@ -1,5 +1,5 @@
 // Finding an entry by its key, entering one more key, and starting from none.
-ghost use Rattle.std.specs.Prelude.{◌≡◌, false, [], map, length, replicate};
+ghost use Rattle.std.specs.Prelude.{◌≡◌, false, [], map, length, take, replicate};
 ghost use Rattle.std.specs.Int.{IsPowerOfTwo};
 ghost use Rattle.ordered_index.specs.Slots.{limit};
 ghost use Rattle.ordered_index.specs.Sound.{Sound, Located, keys_of};
@@ -16,6 +16,13 @@ pub enum Entered {
     Present(usize),
     Added(usize),
     Full,
+}
+
+/// The entries in use of a table with a count beside it: the first `count`, or all where there are fewer.
+pub fn in_use<E>(entries: &[E], count: usize) -> &[E]
+    ensures { result.now ≡ take count entries.now }
+{
+    &entries[..count.min(entries.len())]
 }
 
 // How many keys an index may hold: half as many as it has slots, and no more than a slot can name.
