@@ -38,7 +38,8 @@ pub fn probe<E: Entry>(entries: &[E], slots: &[u32], key: &E::Of) -> Probed
         return Probed::Round;
     }
     let mut at = start_slot(key.hash(), size);
-    // Kept: the walk starts where the hash says and goes round the end, so no iterator over the slots is plainer.
+    // Kept: that the first slot and the next slot are one function each is a rule of the project, so no chain of two
+    // ranges goes over the slots.
     for step in 0..size {
         let held = slots[at] as usize;
         if held == 0 {

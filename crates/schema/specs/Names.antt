@@ -1,5 +1,9 @@
--- The texts of the fixed names. Assumes nothing.
+-- Which numbers are names, and the texts of the fixed names. Assumes nothing.
 use Rattle.std.specs.Prelude.{ℕ, cond, List, Some, None, codes, Option, ◌==◌}
+
+-- Every number but 0 is a name.
+abbrev pub name_or_none : ℕ → Option ℕ
+name_or_none n = cond (n == 0) None (Some n)
 
 -- The text of the fixed name of this number, as its bytes; the names are numbered from 1.
 abbrev pub fixed_text : ℕ → Option (List ℕ)

@@ -17,5 +17,5 @@ pub use borrowed::field_or_meta_field;
 pub use interface::Schema;
 pub use lookup::{Answer, Question, ask, knows_by_field};
 pub use meta::MetaLayer;
-pub use names::{Name, fixed_name};
+pub use names::{Name, fixed_name, name_or_none};
 pub use open::OpenSchema;

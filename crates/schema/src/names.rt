@@ -1,6 +1,6 @@
 // Names as numbers, and the eleven names that have the same number everywhere.
 ghost use Rattle.std.specs.Prelude.{◌≡◌, Some, None};
-ghost use Rattle.schema.specs.Names.{fixed_text};
+ghost use Rattle.schema.specs.Names.{name_or_none, fixed_text};
 
 /// A name of a type, a field or an argument, as the number that it was given; 0 is no name.
 pub type Name = u32;
@@ -41,6 +41,13 @@ pub const FIXED_NAMES: [&'static str; 11] = [
     "name",
     "UNKNOWN",
 ];
+
+/// The name of this number, if it is one: 0 is no name.
+pub fn name_or_none(number: u32) -> Option<Name>
+    ensures { result ≡ name_or_none number }
+{
+    (number != 0).then_some(number)
+}
 
 /// The text of a fixed name, or `None` where the number is that of no fixed name.
 pub fn fixed_name(number: Name) -> Option<&'static str>

@@ -10,6 +10,7 @@ use crate::names;
 use crate::names::Name;
 
 /// The root types, each at the number of its operation type.
+// Kept, a table and no match: that constant tables answer for the open schema is a rule of the project.
 const ROOTS: [Name; 3] = [names::QUERY, names::MUTATION, names::SUBSCRIPTION];
 
 /// What is answered for every field.

@@ -7,6 +7,7 @@ use Rattle.schema.specs.declared.answers.TypeKind.{TypeKind}
 use Rattle.schema.specs.declared.answers.FieldDefinition.{FieldDefinition}
 use Rattle.schema.specs.declared.answers.FieldLookupError.{FieldLookupError}
 use Rattle.schema.specs.declared.answers.FieldLookupError.TheVariants.{NoSuchType, NoSuchField}
+use Rattle.schema.specs.Names.{name_or_none}
 use Rattle.schema.specs.Numbers.{kind_of_number}
 use Rattle.schema.specs.Meaning.{Meaning}
 use Rattle.schema.specs.Meta.{defined}
@@ -49,9 +50,6 @@ field_there fields (Some i) = Ok (defined (i + 1) (slice_index_or fields i no_fi
 -- a field of a known type is found where a row has its owner and its name
 abbrev pub field_of : List TypeRow → List FieldRow → ℕ → ℕ → Result FieldDefinition FieldLookupError
 field_of types fields t f = cond (known_type types t) (field_there fields (position_from (owns t f) 0 fields)) (Err NoSuchType)
-
-abbrev pub name_or_none : ℕ → Option ℕ
-name_or_none n = cond (n == 0) None (Some n)
 
 -- the root types, 0 for none
 abbrev pub root_of : RootTypes → OperationType → Option ℕ

@@ -6,7 +6,7 @@ ghost use Rattle.ordered_index.specs.Sound.{Sound};
 ghost use Rattle.ordered_index.specs.Keys.{same_name, name_hash, same_field, field_hash};
 ghost use Rattle.table_schema.specs.Keys.{type_key, row_key};
 ghost use Rattle.table_schema.specs.Found.{place_with, KeysFound};
-ghost use Rattle.table_schema.specs.Verdict.{type_fault, field_fault, fault_at, rows_fault, empty_index, index_fault, owns_fields, repeated};
+ghost use Rattle.table_schema.specs.Verdict.{over_limit, type_fault, field_fault, fault_at, rows_fault, empty_index, index_fault, owns_fields, repeated};
 ghost use Rattle.table_schema.specs.Meaning.{kind_of};
 ghost use Rattle.table_schema.specs.declared.fault.RowFault.{RowFault};
 ghost use Rattle.table_schema.specs.declared.fault.SchemaFault.{SchemaFault};
@@ -18,13 +18,22 @@ use ordered_index::{Entered, Entry, Key, empty, enter, find};
 use schema::TypeKind;
 
 // How many types and fields a schema holds, and the slots of the index of each: twice as many.
-pub const MAX_TYPES: usize = 1024;
+const MAX_TYPES: usize = 1024;
 
-pub const MAX_FIELDS: usize = 4096;
+const MAX_FIELDS: usize = 4096;
 
 pub const TYPE_SLOTS: usize = 2048;
 
 pub const FIELD_SLOTS: usize = 8192;
+
+impl SchemaRows<'_> {
+    /// Whether there are more types or more fields than a schema holds.
+    pub(crate) fn is_over_limit(&self) -> bool
+        ensures { result ≡ over_limit self.now.types.now self.now.fields.now }
+    {
+        self.types.len() > MAX_TYPES || self.fields.len() > MAX_FIELDS
+    }
+}
 
 // Whether the slots are an empty index of this size.
 fn is_empty_index(slots: &[u32], size: usize) -> bool
@@ -135,6 +144,7 @@ impl SchemaRow<FoundTypes<'_>> for FieldRow {
         }
     }
 
+    // The clause is that of the trait, which the check does not give to an impl at a type with a lifetime.
     fn told(fault: RowFault, row: u32) -> SchemaFault
         ensures { result ≡ InFields fault row }
     {
@@ -192,7 +202,7 @@ pub fn index_rows(
     ensures verdict { result ≡ verdict_of (index_fault rows.now.types.now rows.now.fields.now type_slots.old field_slots.old) }
     ensures slots { MatchResult result (λ _. Sound same_name name_hash (map type_key rows.now.types.now) type_slots.new × Sound same_field field_hash (map row_key rows.now.fields.now) field_slots.new) (λ _. (type_slots.new ≡ type_slots.old) × (field_slots.new ≡ field_slots.old)) }
 {
-    if rows.types.len() > MAX_TYPES || rows.fields.len() > MAX_FIELDS {
+    if rows.is_over_limit() {
         return Err(SchemaFault::OverLimit);
     }
     if !is_empty_index(type_slots, TYPE_SLOTS) || !is_empty_index(field_slots, FIELD_SLOTS) {

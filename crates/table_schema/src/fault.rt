@@ -61,8 +61,9 @@ impl From<SchemaFault> for Refusal {
         let (reason, row) = match fault {
             SchemaFault::OverLimit => (Reason::SchemaOverLimit, 0),
             SchemaFault::SlotsUnfit => (Reason::IndexUnfit, 0),
-            SchemaFault::InTypes(fault, row) => (Reason::from(fault), row),
-            SchemaFault::InFields(fault, row) => (Reason::from(fault), row),
+            SchemaFault::InTypes(fault, row) | SchemaFault::InFields(fault, row) => {
+                (Reason::from(fault), row)
+            }
         };
         Refusal {
             reason,
@@ -94,6 +95,8 @@ impl From<MakeFault> for Refusal {
     }
 }
 
+// Kept, conversions by hand: what is promised of making a schema names the error, and a derived conversion promises
+// nothing.
 impl From<SchemaFault> for MakeFault {
     ghost from_gives = { λ e r. r ≡ made.Rows e };
 

@@ -4,7 +4,7 @@ ghost use Rattle.table_schema.specs.Keys.{type_key, row_key, entry_key};
 ghost use Rattle.table_schema.specs.Meaning.{root_of};
 
 use ordered_index::{Entry, TypeField};
-use schema::{FieldDefinition, Name, OperationType};
+use schema::{FieldDefinition, Name, OperationType, name_or_none};
 
 /// A type: its name and the number of its kind, 1 to 6.
 #[derive(Clone, Copy)]
@@ -39,7 +39,7 @@ impl RootTypes {
             OperationType::Mutation => self.mutation,
             OperationType::Subscription => self.subscription,
         };
-        if name == 0 { None } else { Some(name) }
+        name_or_none(name)
     }
 }
 

@@ -4,7 +4,7 @@ ghost use Rattle.table_schema.specs.Kept.{entries_from};
 ghost use Rattle.table_schema.specs.Table.{Makes};
 
 use super::TableSchema;
-use crate::check::{FIELD_SLOTS, MAX_FIELDS, MAX_TYPES, TYPE_SLOTS, index_rows};
+use crate::check::{FIELD_SLOTS, TYPE_SLOTS, index_rows};
 use crate::fault::{MakeFault, SchemaFault};
 use crate::indexed::IndexedTable;
 use crate::rows::{FieldEntry, FieldRow, SchemaRows};
@@ -41,7 +41,7 @@ impl TableSchema {
     pub fn new(heap: Global, rows: &SchemaRows<'_>) -> Result<TableSchema, MakeFault>
         ensures { Makes rows.now.types.now rows.now.fields.now rows.now.roots result }
     {
-        if rows.types.len() > MAX_TYPES || rows.fields.len() > MAX_FIELDS {
+        if rows.is_over_limit() {
             return Err(MakeFault::Rows(SchemaFault::OverLimit));
         }
         let mut type_slots = empty_slots(heap, TYPE_SLOTS)?;

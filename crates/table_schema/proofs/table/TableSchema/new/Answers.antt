@@ -1,7 +1,7 @@
-use Rattle.std.proofs.Common.{◌≡◌, ℕ, false, List, map, length, Some, Ok, Err, Result, vec_items, sym, ap, ◌∙◌, subst}
+use Rattle.std.proofs.Common.{◌≡◌, ℕ, false, List, map, Some, Ok, Err, Result, vec_items, sym, ap, ◌∙◌, subst}
 use Rattle.std.specs.Result.{IsErrAnd}
 use Rattle.std.proofs.lemmas.List.{with_items_is}
-use Rattle.std.proofs.lemmas.Bool.{cond-false, or_from, le-ltb}
+use Rattle.std.proofs.lemmas.Bool.{cond-false}
 use Rattle.ordered_index.specs.declared.keys.TypeField.{TypeField}
 use Rattle.ordered_index.specs.Keys.{same_name, name_hash, same_field, field_hash}
 use Rattle.ordered_index.specs.Sound.{Sound}
@@ -42,7 +42,7 @@ returns-in_err-index_rows c =
 pub returns-in_err-types : goal.returns-in_err-types
 returns-in_err-types c =
     no_memory c.args.rows.now.types.now c.args.rows.now.fields.now c.args.rows.now.roots _ c.from_residual-in_err-types.ensures.1
-    (or_from _ _ (le-ltb 1024 (length c.args.rows.now.types.now) c.if-rows-gt-MAX_TYPES.false) (le-ltb 4096 (length c.args.rows.now.fields.now) c.if-rows-gt-MAX_FIELDS.false))
+    (sym c.is_over_limit.ensures ∙ c.if-is_over_limit.false)
 
 pub new-requires : goal.new-requires
 new-requires c =
