@@ -12,7 +12,8 @@ use Rattle.selection_rules.specs.declared.error.BuildError.{BuildError}
 use Rattle.selection_rules.specs.Errors.{Error, error_rows, keys_in}
 use Rattle.building_rules.specs.Definitions.{Accepted, Kept, Taken, State, step, kept_from, errors_from, state_after}
 use Rattle.stored_tables.specs.declared.definition.StoredDefinition.{StoredDefinition}
-use Rattle.stored_tables.specs.Layout.{name_of, rows_of, rows_kept, operations_of, fragments_of, anonymous_of}
+use Rattle.building_rules.specs.Bounds.{rows_kept}
+use Rattle.stored_tables.specs.Layout.{name_of, rows_of, operations_of, fragments_of, anonymous_of}
 use Rattle.builder.specs.declared.progress.Progress.{Progress}
 use Rattle.builder.specs.Filling.{put, Output, output, filled_to}
 

@@ -1,6 +1,7 @@
 -- What becomes of a definition before its selections are looked at: its own errors, and whether it is stored, in which type.
-use Rattle.std.specs.Prelude.{◌≡◌, ℕ, zero, suc, Bool, true, false, cond, List, [], ◌∷◌, ◌++◌, Some, None, Option, ◌==◌}
+use Rattle.std.specs.Prelude.{◌≡◌, ℕ, zero, suc, Bool, true, false, cond, List, [], ◌∷◌, ◌++◌, Some, None, Option}
 use Rattle.document.specs.Rows.{Head}
+use Rattle.schema.specs.Names.{name_or_none}
 use Rattle.schema.specs.Meaning.{Meaning}
 use Rattle.selection_rules.specs.declared.error.BuildError.{BuildError}
 use Rattle.selection_rules.specs.Errors.{Error, type_system_definition, ambiguous_anonymous_operation, operation_name_collision, fragment_name_collision, undefined_root_operation, undefined_type_in_named_fragment, error_rows}
@@ -19,7 +20,7 @@ operations_stored (Some at) (suc n) = Both at
 
 -- the name of an operation that arrives, if it has one
 abbrev pub arriving_name : Head → Option ℕ
-arriving_name h = cond (h.name == 0) None (Some h.name)
+arriving_name h = name_or_none h.name
 
 -- without a root an operation is left out
 abbrev pub root_errors : Option ℕ → Head → List Error

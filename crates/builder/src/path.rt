@@ -4,7 +4,6 @@ ghost use Rattle.document.specs.Rows.{selection_of};
 ghost use Rattle.document.specs.Needs.{way};
 ghost use Rattle.selection_rules.specs.Errors.{path_at};
 ghost use Rattle.selection_rules.specs.Sets.{response_key, path_to};
-ghost use Rattle.builder.specs.Filling.{put, path_of};
 
 use document::{SelectionKind, SelectionRow};
 use selection_rules::{ExecutableDefinitionName, SelectionPath};
@@ -16,6 +15,7 @@ pub struct OpenPath {
     root: ExecutableDefinitionName,
     keys: [u32; 32],
     depth: usize,
+    ghost within: { depth ≤ 32 },
 }
 
 // The key of a field in a response: its alias, else its name.
@@ -26,6 +26,8 @@ fn response_key(row: &SelectionRow) -> u32
 }
 
 impl OpenPath {
+    ghost use Rattle.builder.specs.Filling.{put, path_of};
+
     // The path of a definition's own set.
     pub fn start(root: ExecutableDefinitionName) -> OpenPath
         ensures path { path_of result ≡ record { root = root; keys = [] } }
@@ -54,7 +56,6 @@ impl OpenPath {
 
     // Writes the open keys into the table, from the place `at` on, and tells the path that stands there.
     pub fn write(self, path_keys: &mut [u32], at: usize) -> SelectionPath
-        requires deep { self.depth ≤ 32 }
         requires room { at + self.depth ≤ length path_keys.old }
         requires few { at + self.depth ≤ 131072 }
         ensures keys { path_keys.new ≡ put path_keys.old at (path_of self).keys }

@@ -8,7 +8,7 @@ ghost use Rattle.builder.specs.Ruling.{operations_stored, arriving_name, root_ru
 
 use crate::named::Stored;
 use document::DefinitionRow;
-use schema::{Name, OperationType, Schema};
+use schema::{Name, OperationType, Schema, name_or_none};
 use selection_rules::BuildError;
 
 /// At most two errors, in this order; the type around the selections, where the definition is stored; and whether the
@@ -22,6 +22,7 @@ pub struct Ruling {
 }
 
 /// Which operations are stored; an anonymous one is told by its location.
+// Kept: that these four states are matched together with the operation that arrives is a rule of the project.
 #[derive(Clone, Copy)]
 pub enum StoredOperations {
     Neither,
@@ -34,7 +35,7 @@ pub enum StoredOperations {
 fn arriving_name(row: &DefinitionRow) -> Option<Name>
     ensures { result ≡ arriving_name (head_of row.now) }
 {
-    if row.name == 0 { None } else { Some(row.name) }
+    name_or_none(row.name)
 }
 
 pub fn operation_type(row: &DefinitionRow) -> OperationType
@@ -189,7 +190,7 @@ impl Stored<'_> {
         requires whole { head_broken (head_of row.now) ≡ false }
         ensures { Ruled (S.Schema.meaning schema.now) (state_now self.now) (head_of row.now) strict result }
     {
-        // Kept: the kinds of the type system are a range of the row's number, guarded by the flag, as is asked for here.
+        // Kept: a match over the row's number, with a range that the flag guards, is a rule of the project at this place.
         let first = match row.kind {
             1 => return self.rule_operation(schema, row),
             2 => return self.rule_fragment(schema, row),

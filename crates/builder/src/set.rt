@@ -61,7 +61,6 @@ fn list_fault(
     path_keys: &mut [u32],
     filled: Filled,
 ) -> Filled
-    requires deep { path.depth ≤ 32 }
     requires errors_fit { filled.errors < length errors.old }
     requires keys_fit { filled.path_keys + path.depth ≤ length path_keys.old }
     requires keys_few { filled.path_keys + path.depth ≤ 131072 }

@@ -28,11 +28,6 @@ abbrev pub rows_of : ℕ → List Kept → List StoredRow
 rows_of n [] = []
 rows_of n (k ∷ ks) = flatten stored_row n k.rows ++ rows_of (n + size k.rows) ks
 
--- how many rows they have
-abbrev pub rows_kept : List Kept → ℕ
-rows_kept [] = 0
-rows_kept (k ∷ ks) = size k.rows + rows_kept ks
-
 -- those of them whose role passes the test
 abbrev pub those_of : (Role → Bool) → ℕ → List Kept → List StoredDefinition
 those_of test n [] = []
