@@ -56,7 +56,7 @@ fn with_definition(
 
 #[test]
 fn members_at_fault(rt: HostRuntime) -> Result<(), Fail> {
-    each_refused(&rt, rt.alloc(), &MEMBERS, [0, 1, 2], with_definition)
+    each_refused(&rt, &MEMBERS, [0, 1, 2], with_definition)
 }
 
 // The type system's definitions use their name and location only.
@@ -143,7 +143,7 @@ fn ranges_at_fault(rt: HostRuntime) -> Result<(), Fail> {
             "{}",
             i
         );
-        if let Some(first) = rows.get_mut(0) {
+        if let Some(first) = rows.first_mut() {
             first.name = 0;
         }
         let expected = match reason {

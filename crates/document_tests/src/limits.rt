@@ -3,15 +3,16 @@ use crate::tables::{
     BROKEN, FINE, QUERY, TOO_DEEP, TOO_MANY_DEFINITIONS, TOO_MANY_ROWS, UNNAMED, Verdicts, chain,
     definition, flat, refused, verdicts,
 };
-use document::{DefinitionRow, SelectionRow};
+use document::DefinitionRow;
 use std::alloc::{AllocError, Global};
 use std::test::Fail;
 
 // The refusal of a chain of so many rows, the last of which has this kind and name.
 fn with_last(heap: Global, count: u16, kind: u32, name: u32) -> Result<Verdicts, AllocError> {
     let mut rows = chain(heap, count)?;
-    if let Some(last) = rows.pop() {
-        rows.push(SelectionRow { kind, name, ..last })?;
+    if let Some(last) = rows.last_mut() {
+        last.kind = kind;
+        last.name = name;
     }
     let all = [definition(QUERY, 0, u32::from(count))];
     Ok(verdicts(&all, rows.as_slice()))
@@ -56,7 +57,7 @@ fn sized(heap: Global, counts: (u16, u16), damaged: bool) -> Result<Verdicts, Al
     let mut all = operations(heap, counts.0, counts.1)?;
     let mut rows = flat(heap, counts.1)?;
     if damaged {
-        if let (Some(head), Some(row)) = (all.get_mut(0), rows.get_mut(0)) {
+        if let (Some(head), Some(row)) = (all.first_mut(), rows.first_mut()) {
             head.kind = 18;
             row.name = 0;
         }

@@ -81,10 +81,10 @@ fn set_is(
     places: &[usize],
 ) -> Result<(), Fail> {
     let mut rest = set;
-    for place in places {
+    for &place in places {
         let step = document.next_selection(rest).ok_or("the set is too short")?;
-        assert_eq!(rt; step.place, *place, "{} of {} places", place, places.len());
-        assert_eq!(rt; step.row.name as usize, *place + 10);
+        assert_eq!(rt; step.place, place, "{} of {} places", place, places.len());
+        assert_eq!(rt; step.row.name as usize, place + 10);
         rest = step.after;
     }
     assert!(rt; document.next_selection(rest).is_none());

@@ -55,7 +55,7 @@ fn with_row(heap: Global, place: u16, members: SelectionMembers) -> Result<Verdi
 
 #[test]
 fn members_at_fault(rt: HostRuntime) -> Result<(), Fail> {
-    each_refused(&rt, rt.alloc(), &MEMBERS, [0, 2, 4], with_row)
+    each_refused(&rt, &MEMBERS, [0, 2, 4], with_row)
 }
 
 // Rows by kind, name and end, and the refusal by reason and row.

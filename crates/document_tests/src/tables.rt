@@ -144,8 +144,7 @@ pub fn refused(reason: Option<Reason>, row: u32) -> Verdicts {
 
 // Each of these members at each place: refused for its reason at that place's row, by what `verdict` says of it there.
 pub fn each_refused<F: Fn(Global, u16, [u32; 9]) -> Result<Verdicts, AllocError>>(
-    rt: &impl Abort,
-    heap: Global,
+    rt: &(impl Abort + AllocGlobal),
     cases: &[([u32; 9], Option<Reason>)],
     places: [u16; 3],
     verdict: F,
@@ -154,7 +153,7 @@ pub fn each_refused<F: Fn(Global, u16, [u32; 9]) -> Result<Verdicts, AllocError>
 {
     for (i, &(members, reason)) in cases.iter().enumerate() {
         for place in places {
-            let told = verdict(heap, place, members)?;
+            let told = verdict(rt.alloc(), place, members)?;
             assert_eq!(rt; told, refused(reason, u32::from(place) + 1), "{}", i);
         }
     }

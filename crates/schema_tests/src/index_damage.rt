@@ -7,23 +7,18 @@ use std::process::Abort;
 use std::test::Fail;
 
 fn named(heap: Global, names: &[u32]) -> Result<Vec<Named>, AllocError> {
-    let mut entries = Vec::new(heap);
-    for name in names {
-        entries.push(Named { name: *name })?;
-    }
-    Ok(entries)
+    names.iter().map(|&name| Named { name }).collect(heap)
 }
 
 // Fills an index of eight slots, which comes to these slots.
 fn filled<E: Entry + Clone>(
-    rt: &impl Abort,
-    heap: Global,
+    rt: &(impl Abort + AllocGlobal),
     new: &[E],
     slots_after: &[u32],
 ) -> Result<(), Fail> {
-    let mut entries = new.to_vec(heap)?;
-    let mut slots = vec![in heap; 0u32; slots_after.len()]?;
-    fill(rt, entries.as_mut_slice(), slots.as_mut_slice(), new)?;
+    let mut entries = new.to_vec(rt.alloc())?;
+    let mut slots = vec![in rt.alloc(); 0u32; slots_after.len()]?;
+    fill(rt, entries.as_mut_slice(), slots.as_mut_slice(), new);
     assert_eq!(rt; slots.as_slice(), slots_after);
     Ok(())
 }
@@ -41,7 +36,7 @@ fn names_that_meet(rt: HostRuntime) -> Result<(), Fail> {
     ];
     for (names, slots) in cases {
         let new = named(rt.alloc(), &names)?;
-        filled(&rt, rt.alloc(), new.as_slice(), &slots)?;
+        filled(&rt, new.as_slice(), &slots)?;
     }
     Ok(())
 }
@@ -55,29 +50,26 @@ fn fields_that_meet(rt: HostRuntime) -> Result<(), Fail> {
         Owned { owner: 8, field: 3 },
         Owned { owner: 5, field: 7 },
     ];
-    filled(&rt, rt.alloc(), &new, &[2, 3, 4, 0, 0, 0, 0, 1])
+    filled(&rt, &new, &[2, 3, 4, 0, 0, 0, 0, 1])
 }
 
 // With any one slot changed the slots are no sound index: a key is lost, a slot too many is in use, or a slot names
 // a place past the entries.
-fn each_slot_matters(rt: &impl Abort, entries: &[Named], slots: &mut [u32]) -> Result<(), Fail> {
-    // Kept, places by number: the slots are changed and looked at whole in turn.
-    for s in 0..slots.len() {
-        let held = slots[s];
+fn each_slot_matters(rt: &impl Abort, entries: &[Named], slots: [u32; 8]) {
+    for (place, &held) in slots.iter().enumerate() {
         for other in [0, 1, 2, 3, 4, 5, 8, u32::MAX] {
-            slots[s] = other;
+            let mut changed = slots;
+            changed[place] = other;
             assert_eq!(rt;
-                agrees(entries, slots),
+                agrees(entries, &changed),
                 other == held,
                 "{} names; slot {}",
                 entries.len(),
-                s
+                place
             );
         }
-        slots[s] = held;
     }
-    assert!(rt; agrees(entries, slots));
-    Ok(())
+    assert!(rt; agrees(entries, &slots));
 }
 
 #[test]
@@ -86,8 +78,8 @@ fn one_slot_damaged(rt: HostRuntime) -> Result<(), Fail> {
         let entries = named(rt.alloc(), &names)?;
         let mut slots = [0u32; 8];
         let mut room = entries.as_slice().to_vec(rt.alloc())?;
-        fill(&rt, room.as_mut_slice(), &mut slots, entries.as_slice())?;
-        each_slot_matters(&rt, entries.as_slice(), &mut slots)?;
+        fill(&rt, room.as_mut_slice(), &mut slots, entries.as_slice());
+        each_slot_matters(&rt, entries.as_slice(), slots);
     }
     Ok(())
 }
@@ -127,10 +119,10 @@ const BESIDE: [Beside; 21] = [
 
 #[test]
 fn slots_beside_names(rt: HostRuntime) -> Result<(), Fail> {
-    for (i, (names, count, slots, sound)) in BESIDE.iter().enumerate() {
+    for (i, &(names, count, slots, sound)) in BESIDE.iter().enumerate() {
         let entries = named(rt.alloc(), names)?;
-        let used = in_use(entries.as_slice(), *count);
-        assert_eq!(rt; agrees(used, slots), *sound, "{}", i);
+        let used = in_use(entries.as_slice(), count);
+        assert_eq!(rt; agrees(used, slots), sound, "{}", i);
     }
     Ok(())
 }
@@ -157,11 +149,11 @@ fn no_way_to_a_slot(rt: HostRuntime) {
 
 // With no entry left to write, a key is refused by `insert`, and given its place by `enter`, which writes none.
 #[test]
-fn no_entry_left(rt: HostRuntime) -> Result<(), Fail> {
+fn no_entry_left(rt: HostRuntime) {
     let new = [Named { name: 0 }, Named { name: 1 }];
     let mut entries = new;
     let mut slots = [0u32; 8];
-    fill(&rt, &mut entries, &mut slots, &new)?;
+    fill(&rt, &mut entries, &mut slots, &new);
     assert_eq!(rt;
         insert(&mut entries, 2, &mut slots, Named { name: 2 }),
         Entered::Full
@@ -174,5 +166,4 @@ fn no_entry_left(rt: HostRuntime) -> Result<(), Fail> {
     assert_eq!(rt; slots, [1, 0, 0, 0, 0, 0, 0, 2]);
     assert_eq!(rt; enter(&entries, &mut slots, &2), Entered::Added(2));
     assert_eq!(rt; slots, [1, 0, 0, 0, 0, 0, 3, 2]);
-    Ok(())
 }

@@ -65,12 +65,7 @@ pub fn in_use<E>(entries: &[E], count: usize) -> &[E] {
 }
 
 // Puts the entries in, each of which is to be new, and checks the index after each.
-pub fn fill<E: Entry>(
-    rt: &impl Abort,
-    entries: &mut [E],
-    slots: &mut [u32],
-    new: &[E],
-) -> Result<(), Fail> {
+pub fn fill<E: Entry>(rt: &impl Abort, entries: &mut [E], slots: &mut [u32], new: &[E]) {
     assert!(rt; agrees(in_use(entries, 0), slots));
     for (i, entry) in new.iter().enumerate() {
         assert_eq!(rt;
@@ -81,7 +76,6 @@ pub fn fill<E: Entry>(
         );
         assert!(rt; agrees(in_use(entries, i + 1), slots), "{}", i);
     }
-    Ok(())
 }
 
 // Each of the entries that are in is found at its place, is not there for one who looks at those before it only, and
@@ -131,19 +125,18 @@ fn all_refused<E: Entry>(
 // An index that is filled to its limit: what is in stays at its place, what is not is refused, and neither the slots
 // nor the entries change. There are more entries than the slots serve, so that the slots alone are the limit.
 fn full_index<E: Entry + Clone + PartialEq>(
-    rt: &impl Abort,
-    heap: Global,
+    rt: &(impl Abort + AllocGlobal),
     spare: E,
     present: &[E],
     absent: &[E],
     limit: u32,
 ) -> Result<(), Fail> {
-    let mut entries = vec![in heap; spare; limit as usize + 2]?;
-    let mut slots = vec![in heap; 0u32; limit as usize * 2]?;
+    let mut entries = vec![in rt.alloc(); spare; limit as usize + 2]?;
+    let mut slots = vec![in rt.alloc(); 0u32; limit as usize * 2]?;
     assert_eq!(rt; present.len(), limit as usize);
-    fill(rt, entries.as_mut_slice(), slots.as_mut_slice(), present)?;
-    let filled = entries.as_slice().to_vec(heap)?;
-    let used = slots.as_slice().to_vec(heap)?;
+    fill(rt, entries.as_mut_slice(), slots.as_mut_slice(), present);
+    let filled = entries.as_slice().to_vec(rt.alloc())?;
+    let used = slots.as_slice().to_vec(rt.alloc())?;
     each_at_its_place(rt, entries.as_mut_slice(), slots.as_mut_slice(), present);
     all_refused(
         rt,
@@ -167,14 +160,7 @@ fn names_to_the_limit(rt: HostRuntime) -> Result<(), Fail> {
     ];
     for limit in [1, 2, 4, 1024] {
         let present = names_from_both_ends(rt.alloc(), limit)?;
-        full_index(
-            &rt,
-            rt.alloc(),
-            Named { name: 7 },
-            present.as_slice(),
-            &absent,
-            limit,
-        )?;
+        full_index(&rt, Named { name: 7 }, present.as_slice(), &absent, limit)?;
     }
     Ok(())
 }
@@ -196,7 +182,6 @@ fn fields_to_the_limit(rt: HostRuntime) -> Result<(), Fail> {
         let present = fields_from_both_ends(rt.alloc(), limit)?;
         full_index(
             &rt,
-            rt.alloc(),
             Owned { owner: 7, field: 7 },
             present.as_slice(),
             &absent,

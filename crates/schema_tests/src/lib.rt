@@ -9,6 +9,8 @@ mod index_limit;
 #[cfg(test)]
 mod lookups;
 #[cfg(test)]
+mod numbers;
+#[cfg(test)]
 mod row_faults;
 #[cfg(test)]
 mod rows;

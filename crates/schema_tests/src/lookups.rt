@@ -1,6 +1,5 @@
 // The answers of the schemas: a table schema under the meta-fields, the open schema, and both borrowed.
 use crate::rows::{ENUM, OBJECT, SCALAR, field_rows, type_rows};
-use refusal::Refusal;
 use schema::names::{
     QUERY, SCHEMA_FIELD, SCHEMA_TYPE, STRING, TYPE_FIELD, TYPE_TYPE, TYPENAME_FIELD,
 };
@@ -57,11 +56,10 @@ fn table(heap: Global, fields: &[(u32, u32, u32)], query: Name) -> Result<TableS
         fields: fields.as_slice(),
         roots: RootTypes {
             query,
-            mutation: 0,
-            subscription: 0,
+            ..RootTypes::default()
         },
     };
-    TableSchema::new(heap, &rows).map_err(|fault| Fail::new(Refusal::from(fault).reason.number()))
+    Ok(TableSchema::new(heap, &rows)?)
 }
 
 // A field by the place of its definition and its inner type, or why there is none.
@@ -78,36 +76,28 @@ const SCHEMA: Found = Ok((4098, SCHEMA_TYPE));
 const TYPE: Found = Ok((4099, TYPE_TYPE));
 
 fn found(answer: Result<FieldDefinition, FieldLookupError>) -> Found {
-    match answer {
-        Ok(definition) => Ok((definition.place, definition.inner)),
-        Err(error) => Err(error),
-    }
+    answer.map(|definition| (definition.place, definition.inner))
 }
 
 // The schema gives these answers to the questions for a field, whether it is asked itself or borrowed.
-fn fields<S: Schema>(
-    rt: &impl Abort,
-    schema: &S,
-    cases: &[(Name, Name, Found)],
-) -> Result<(), Fail> {
+fn fields<S: Schema>(rt: &impl Abort, schema: &S, cases: &[(Name, Name, Found)]) {
     let borrowed = &schema;
-    for (type_name, field_name, expected) in cases {
-        let (type_name, field_name) = (*type_name, *field_name);
+    for &(type_name, field_name, expected) in cases {
         assert_eq!(rt;
             found(schema.type_field(type_name, field_name)),
-            *expected,
+            expected,
             "{}; {}",
             type_name,
             field_name
         );
         assert_eq!(rt;
             found(borrowed.type_field(type_name, field_name)),
-            *expected,
+            expected,
             "{}; {}",
             type_name,
             field_name
         );
-        let known = *expected != NO_TYPE;
+        let known = expected != NO_TYPE;
         assert_eq!(rt;
             knows_by_field(schema, type_name, field_name),
             known,
@@ -116,15 +106,14 @@ fn fields<S: Schema>(
         );
         assert_eq!(rt; borrowed.knows(type_name), known, "{}", type_name);
     }
-    Ok(())
 }
 
 // The schema gives these answers to any questions, whether it is asked itself or borrowed.
 fn answers<S: Schema>(rt: &impl Abort, schema: &S, cases: &[(Question, Answer)]) {
     let borrowed = &schema;
-    for (i, (question, answer)) in cases.iter().enumerate() {
-        assert_eq!(rt; ask(schema, *question), *answer, "{}", i);
-        assert_eq!(rt; ask(borrowed, *question), *answer, "{}", i);
+    for (i, &(question, answer)) in cases.iter().enumerate() {
+        assert_eq!(rt; ask(schema, question), answer, "{}", i);
+        assert_eq!(rt; ask(borrowed, question), answer, "{}", i);
     }
 }
 
@@ -146,13 +135,12 @@ fn in_type(
     layer: &MetaLayer<TableSchema>,
     type_name: Name,
     expected: &[Found; 8],
-) -> Result<(), Fail> {
-    for (field_name, answer) in ASKED.iter().zip(expected) {
-        fields(rt, layer, &[(type_name, *field_name, *answer)])?;
-        let lent = field_or_meta_field(&layer.lower, type_name, *field_name);
-        assert_eq!(rt; found(lent), *answer, "{}; {}", type_name, field_name);
+) {
+    for (&field_name, &answer) in ASKED.iter().zip(expected) {
+        fields(rt, layer, &[(type_name, field_name, answer)]);
+        let lent = field_or_meta_field(&layer.lower, type_name, field_name);
+        assert_eq!(rt; found(lent), answer, "{}; {}", type_name, field_name);
     }
-    Ok(())
 }
 
 // No such field, short for the table below.
@@ -199,7 +187,7 @@ fn fields_of_every_type(rt: HostRuntime) -> Result<(), Fail> {
         lower: table(rt.alloc(), &FIELDS, QUERY)?,
     };
     for (type_name, expected) in EVERY_TYPE {
-        in_type(&rt, &layer, type_name, &expected)?;
+        in_type(&rt, &layer, type_name, &expected);
     }
     Ok(())
 }
@@ -266,11 +254,12 @@ fn lower_schema_first(rt: HostRuntime) -> Result<(), Fail> {
             (QUERY, SCHEMA_FIELD, NO_FIELD),
             (NOWHERE, TYPE_FIELD, NO_TYPE),
         ],
-    )?;
+    );
     let layer = MetaLayer {
         lower: table(rt.alloc(), &OWN_META_FIELDS, QUERY)?,
     };
-    fields(&rt, &layer, &OWN_FIRST)
+    fields(&rt, &layer, &OWN_FIRST);
+    Ok(())
 }
 
 // A root of queries that is no type, none at all, or another type than Query.
@@ -296,7 +285,7 @@ fn other_query_roots(rt: HostRuntime) -> Result<(), Fail> {
             (QUERY, TYPENAME_FIELD, TYPENAME),
             (METER, SCHEMA_FIELD, in_meter),
         ];
-        fields(&rt, &layer, &cases)?;
+        fields(&rt, &layer, &cases);
     }
     Ok(())
 }
@@ -330,13 +319,12 @@ const OPEN_ANSWERS: [(Question, Answer); 6] = [
 
 // The open schema knows every type and field, and leaves the meta-fields nothing to add.
 #[test]
-fn open_schema(rt: HostRuntime) -> Result<(), Fail> {
+fn open_schema(rt: HostRuntime) {
     let layer = MetaLayer { lower: OpenSchema };
-    fields(&rt, &OpenSchema, &EVERYTHING)?;
-    fields(&rt, &layer, &EVERYTHING)?;
+    fields(&rt, &OpenSchema, &EVERYTHING);
+    fields(&rt, &layer, &EVERYTHING);
     answers(&rt, &OpenSchema, &OPEN_ANSWERS);
     answers(&rt, &layer, &OPEN_ANSWERS);
-    Ok(())
 }
 
 // A meta layer over a borrowed schema, which stays with its owner.
@@ -352,7 +340,7 @@ fn borrowed_beneath_the_layer(rt: HostRuntime) -> Result<(), Fail> {
             (METER, TYPENAME_FIELD, TYPENAME),
             (QUERY, TYPE_FIELD, TYPE),
         ],
-    )?;
+    );
     fields(
         &rt,
         &owned,
@@ -360,5 +348,6 @@ fn borrowed_beneath_the_layer(rt: HostRuntime) -> Result<(), Fail> {
             (QUERY, UNIT_FIELD, Ok((2, UNIT))),
             (METER, TYPENAME_FIELD, NO_FIELD),
         ],
-    )
+    );
+    Ok(())
 }

@@ -1,34 +1,28 @@
 // Rows that are no schema: every fault at the first row where it can stand, which of two faults is told, and the sizes.
 use crate::rows::{
-    ENUM, INPUT_OBJECT, INTERFACE, OBJECT, SCALAR, Told, UNION, come_to, field_rows, many_fields,
-    many_types, rootless, type_rows,
+    ENUM, FINE, INPUT_OBJECT, INTERFACE, KIND_UNKNOWN, OBJECT, OVER_LIMIT, OWNER_UNFIT, REPEATED,
+    SCALAR, UNION, UNNAMED, come_to, field_rows, many_fields, many_types, refused, rootless,
+    type_rows,
 };
-use refusal::Layer;
-use std::alloc::Global;
+use refusal::{Reason, Refusal};
 use std::process::Abort;
 use std::test::Fail;
 use table_schema::{RowFault, SchemaFault};
 
-// Types by name and kind, fields by owner, name and inner type, and the refusal by number and row, 0 and 0 for none.
+// Types by name and kind, fields by owner, name and inner type, and the refusal by reason and row.
 type Case = (
     &'static [(u32, u32)],
     &'static [(u32, u32, u32)],
-    (u32, u32),
+    Option<Reason>,
+    u32,
 );
 
-fn told(number: u32, row: u32) -> Option<Told> {
-    if number == 0 {
-        return None;
-    }
-    Some((number, Layer::Schema, row))
-}
-
-fn each(rt: &impl Abort, heap: Global, cases: &[Case]) -> Result<(), Fail> {
-    for (types, fields, (number, row)) in cases {
-        let types = type_rows(heap, types)?;
-        let fields = field_rows(heap, fields)?;
+fn each(rt: &(impl Abort + AllocGlobal), cases: &[Case]) -> Result<(), Fail> {
+    for &(types, fields, reason, row) in cases {
+        let types = type_rows(rt.alloc(), types)?;
+        let fields = field_rows(rt.alloc(), fields)?;
         let rows = rootless(types.as_slice(), fields.as_slice());
-        come_to(rt, heap, &rows, told(*number, *row))?;
+        come_to(rt, &rows, refused(reason, row))?;
     }
     Ok(())
 }
@@ -37,8 +31,8 @@ const LAST: u32 = u32::MAX;
 
 const TYPES_AT_FAULT: [Case; 13] = [
     // none: no rows, names at both ends, every kind
-    (&[], &[], (0, 0)),
-    (&[(1, OBJECT), (LAST, OBJECT)], &[], (0, 0)),
+    (&[], &[], FINE, 0),
+    (&[(1, OBJECT), (LAST, OBJECT)], &[], FINE, 0),
     (
         &[
             (1, SCALAR),
@@ -49,26 +43,27 @@ const TYPES_AT_FAULT: [Case; 13] = [
             (6, INPUT_OBJECT),
         ],
         &[],
-        (0, 0),
+        FINE,
+        0,
     ),
     // one fault
-    (&[(0, OBJECT)], &[], (5, 1)),
-    (&[(1, 0)], &[], (6, 1)),
-    (&[(1, 7)], &[], (6, 1)),
-    (&[(1, LAST)], &[], (6, 1)),
-    (&[(LAST, OBJECT), (LAST, OBJECT)], &[], (7, 2)),
-    (&[(1, OBJECT), (1, SCALAR)], &[], (7, 2)),
+    (&[(0, OBJECT)], &[], UNNAMED, 1),
+    (&[(1, 0)], &[], KIND_UNKNOWN, 1),
+    (&[(1, 7)], &[], KIND_UNKNOWN, 1),
+    (&[(1, LAST)], &[], KIND_UNKNOWN, 1),
+    (&[(LAST, OBJECT), (LAST, OBJECT)], &[], REPEATED, 2),
+    (&[(1, OBJECT), (1, SCALAR)], &[], REPEATED, 2),
     // two in one row: the smaller number
-    (&[(0, 0)], &[], (5, 1)),
-    (&[(1, OBJECT), (1, 7)], &[], (6, 2)),
+    (&[(0, 0)], &[], UNNAMED, 1),
+    (&[(1, OBJECT), (1, 7)], &[], KIND_UNKNOWN, 2),
     // two rows: the earlier
-    (&[(1, 7), (0, OBJECT)], &[], (6, 1)),
-    (&[(1, OBJECT), (1, OBJECT), (0, 0)], &[], (7, 2)),
+    (&[(1, 7), (0, OBJECT)], &[], KIND_UNKNOWN, 1),
+    (&[(1, OBJECT), (1, OBJECT), (0, 0)], &[], REPEATED, 2),
 ];
 
 #[test]
 fn types_at_fault(rt: HostRuntime) -> Result<(), Fail> {
-    each(&rt, rt.alloc(), &TYPES_AT_FAULT)
+    each(&rt, &TYPES_AT_FAULT)
 }
 
 const FIELDS_AT_FAULT: [Case; 10] = [
@@ -76,103 +71,115 @@ const FIELDS_AT_FAULT: [Case; 10] = [
     (
         &[(1, OBJECT), (LAST, INTERFACE)],
         &[(1, 1, LAST), (1, LAST, 1), (LAST, LAST, LAST)],
-        (0, 0),
+        FINE,
+        0,
     ),
     (
         &[(1, OBJECT), (2, OBJECT)],
         &[(1, 3, 9), (2, 3, 9), (2, 1, 9)],
-        (0, 0),
+        FINE,
+        0,
     ),
     // a name that is 0
-    (&[(1, OBJECT)], &[(0, 1, 1)], (5, 1)),
-    (&[(1, OBJECT)], &[(1, 0, 1)], (5, 1)),
-    (&[(1, OBJECT)], &[(1, 1, 0)], (5, 1)),
+    (&[(1, OBJECT)], &[(0, 1, 1)], UNNAMED, 1),
+    (&[(1, OBJECT)], &[(1, 0, 1)], UNNAMED, 1),
+    (&[(1, OBJECT)], &[(1, 1, 0)], UNNAMED, 1),
     // repeated, with another inner type too
-    (&[(1, OBJECT)], &[(1, 3, 1), (1, 3, 1)], (7, 2)),
-    (&[(1, OBJECT)], &[(1, LAST, 1), (1, LAST, 2)], (7, 2)),
+    (&[(1, OBJECT)], &[(1, 3, 1), (1, 3, 1)], REPEATED, 2),
+    (&[(1, OBJECT)], &[(1, LAST, 1), (1, LAST, 2)], REPEATED, 2),
     (
         &[(1, INTERFACE)],
         &[(1, 3, 1), (1, 4, 1), (1, 3, 2)],
-        (7, 3),
+        REPEATED,
+        3,
     ),
     // an owner that is no row, or that came as a field only
-    (&[], &[(1, 1, 1)], (8, 1)),
-    (&[(1, OBJECT)], &[(1, 2, 2), (2, 1, 1)], (8, 2)),
+    (&[], &[(1, 1, 1)], OWNER_UNFIT, 1),
+    (&[(1, OBJECT)], &[(1, 2, 2), (2, 1, 1)], OWNER_UNFIT, 2),
 ];
 
 #[test]
 fn fields_at_fault(rt: HostRuntime) -> Result<(), Fail> {
-    each(&rt, rt.alloc(), &FIELDS_AT_FAULT)
+    each(&rt, &FIELDS_AT_FAULT)
 }
 
 const OWNERS_AND_ORDER: [Case; 13] = [
     // kinds that own no fields
-    (&[(1, SCALAR)], &[(1, 1, 1)], (8, 1)),
-    (&[(1, UNION)], &[(1, 1, 1)], (8, 1)),
-    (&[(1, ENUM)], &[(1, 1, 1)], (8, 1)),
-    (&[(1, INPUT_OBJECT)], &[(1, 1, 1)], (8, 1)),
-    (&[(1, INTERFACE)], &[(1, 1, 1)], (0, 0)),
+    (&[(1, SCALAR)], &[(1, 1, 1)], OWNER_UNFIT, 1),
+    (&[(1, UNION)], &[(1, 1, 1)], OWNER_UNFIT, 1),
+    (&[(1, ENUM)], &[(1, 1, 1)], OWNER_UNFIT, 1),
+    (&[(1, INPUT_OBJECT)], &[(1, 1, 1)], OWNER_UNFIT, 1),
+    (&[(1, INTERFACE)], &[(1, 1, 1)], FINE, 0),
     // two in one row: the smaller number
-    (&[(1, SCALAR)], &[(1, 1, 0)], (5, 1)),
-    (&[], &[(0, 0, 0)], (5, 1)),
-    (&[(1, OBJECT)], &[(1, 1, 1), (1, 1, 0)], (5, 2)),
+    (&[(1, SCALAR)], &[(1, 1, 0)], UNNAMED, 1),
+    (&[], &[(0, 0, 0)], UNNAMED, 1),
+    (&[(1, OBJECT)], &[(1, 1, 1), (1, 1, 0)], UNNAMED, 2),
     // two rows: the earlier
-    (&[(1, SCALAR)], &[(1, 1, 1), (1, 1, 1)], (8, 1)),
-    (&[(1, OBJECT)], &[(1, 1, 1), (2, 1, 1), (1, 1, 0)], (8, 2)),
-    (&[(1, OBJECT)], &[(1, 1, 1), (1, 1, 1), (0, 1, 1)], (7, 2)),
+    (&[(1, SCALAR)], &[(1, 1, 1), (1, 1, 1)], OWNER_UNFIT, 1),
+    (
+        &[(1, OBJECT)],
+        &[(1, 1, 1), (2, 1, 1), (1, 1, 0)],
+        OWNER_UNFIT,
+        2,
+    ),
+    (
+        &[(1, OBJECT)],
+        &[(1, 1, 1), (1, 1, 1), (0, 1, 1)],
+        REPEATED,
+        2,
+    ),
     // types before fields, whatever their rows and numbers
     (
         &[(1, OBJECT), (2, OBJECT), (1, OBJECT)],
         &[(0, 1, 1)],
-        (7, 3),
+        REPEATED,
+        3,
     ),
-    (&[(1, 7)], &[(1, 1, 1), (1, 1, 1)], (6, 1)),
+    (&[(1, 7)], &[(1, 1, 1), (1, 1, 1)], KIND_UNKNOWN, 1),
 ];
 
 #[test]
 fn owners_and_order(rt: HostRuntime) -> Result<(), Fail> {
-    each(&rt, rt.alloc(), &OWNERS_AND_ORDER)
+    each(&rt, &OWNERS_AND_ORDER)
 }
 
-// So many types and fields come to this refusal, with the first type damaged or not.
+// So many types and fields come to this verdict, with the first type damaged or not.
 fn sized(
-    rt: &impl Abort,
-    heap: Global,
-    types: u32,
-    fields: u32,
+    rt: &(impl Abort + AllocGlobal),
+    counts: (u32, u32),
     damaged: bool,
-    number: u32,
-    row: u32,
+    expected: Option<Refusal>,
 ) -> Result<(), Fail> {
-    let mut types = many_types(heap, types)?;
-    let fields = many_fields(heap, fields)?;
+    let mut types = many_types(rt.alloc(), counts.0)?;
+    let fields = many_fields(rt.alloc(), counts.1)?;
     if damaged {
-        if let Some(first) = types.get_mut(0) {
+        if let Some(first) = types.first_mut() {
             first.name = 0;
         }
     }
     let rows = rootless(types.as_slice(), fields.as_slice());
-    come_to(rt, heap, &rows, told(number, row))
+    come_to(rt, &rows, expected)
 }
 
 #[test]
 fn sizes(rt: HostRuntime) -> Result<(), Fail> {
     let cases = [
-        (1024, 4096, false, 0, 0),
-        (1025, 0, false, 1, 0),
-        (1025, 4096, false, 1, 0),
-        (1024, 4097, false, 1, 0),
-        (0, 4097, false, 1, 0),
-        (1025, 4097, false, 1, 0),
+        // types and fields, whether the first is damaged, and the refusal by reason and row
+        ((1024, 4096), false, FINE, 0),
+        ((1025, 0), false, OVER_LIMIT, 0),
+        ((1025, 4096), false, OVER_LIMIT, 0),
+        ((1024, 4097), false, OVER_LIMIT, 0),
+        ((0, 4097), false, OVER_LIMIT, 0),
+        ((1025, 4097), false, OVER_LIMIT, 0),
         // sizes before rows
-        (1024, 4096, true, 5, 1),
-        (1025, 4096, true, 1, 0),
-        (1024, 4097, true, 1, 0),
+        ((1024, 4096), true, UNNAMED, 1),
+        ((1025, 4096), true, OVER_LIMIT, 0),
+        ((1024, 4097), true, OVER_LIMIT, 0),
         // the first field of a type that is not there
-        (1023, 4096, false, 8, 1024),
+        ((1023, 4096), false, OWNER_UNFIT, 1024),
     ];
-    for (types, fields, damaged, number, row) in cases {
-        sized(&rt, rt.alloc(), types, fields, damaged, number, row)?;
+    for (counts, damaged, reason, row) in cases {
+        sized(&rt, counts, damaged, refused(reason, row))?;
     }
     Ok(())
 }
@@ -207,8 +214,8 @@ fn faults_in_words(rt: HostRuntime) -> Result<(), Fail> {
         ),
     ];
     for (fault, words) in cases {
-        let told = format!(in rt.alloc(); "{fault}")?;
-        assert_eq!(rt; told.as_str(), words);
+        let text = format!(in rt.alloc(); "{fault}")?;
+        assert_eq!(rt; text.as_str(), words);
     }
     Ok(())
 }

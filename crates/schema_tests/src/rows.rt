@@ -1,11 +1,9 @@
 // What the tests of the table schema share: rows from short tuples, many rows, and the verdict on rows.
-use refusal::{Layer, Refusal};
+use refusal::{Layer, Reason, Refusal};
 use std::alloc::{AllocError, Global};
 use std::process::Abort;
 use std::test::Fail;
-use table_schema::{
-    FieldRow, RootTypes, SchemaFault, SchemaRows, TableSchema, TypeRow, index_rows,
-};
+use table_schema::{FieldRow, RootTypes, SchemaRows, TableSchema, TypeRow, index_rows};
 
 // The numbers of the kinds.
 pub const SCALAR: u32 = 1;
@@ -19,6 +17,21 @@ pub const UNION: u32 = 4;
 pub const ENUM: u32 = 5;
 
 pub const INPUT_OBJECT: u32 = 6;
+
+// Why rows are refused, if they are.
+pub const FINE: Option<Reason> = None;
+
+pub const OVER_LIMIT: Option<Reason> = Some(Reason::SchemaOverLimit);
+
+pub const UNNAMED: Option<Reason> = Some(Reason::NameMissing);
+
+pub const KIND_UNKNOWN: Option<Reason> = Some(Reason::KindUnknown);
+
+pub const REPEATED: Option<Reason> = Some(Reason::Repeated);
+
+pub const OWNER_UNFIT: Option<Reason> = Some(Reason::OwnerUnfit);
+
+pub const SLOTS_UNFIT: Option<Reason> = Some(Reason::IndexUnfit);
 
 // Types by name and kind.
 pub fn type_rows(heap: Global, types: &[(u32, u32)]) -> Result<Vec<TypeRow>, AllocError> {
@@ -71,43 +84,47 @@ pub fn rootless<'a>(types: &'a [TypeRow], fields: &'a [FieldRow]) -> SchemaRows<
     SchemaRows {
         types,
         fields,
-        roots: RootTypes {
-            query: 0,
-            mutation: 0,
-            subscription: 0,
-        },
+        roots: RootTypes::default(),
     }
 }
 
-// What a refusal tells in numbers: the number of its reason, the layer and the row.
-pub type Told = (u32, Layer, u32);
-
-pub fn told(refusal: Refusal) -> Told {
-    (refusal.reason.number(), refusal.layer, refusal.row)
+// Refused for this reason at this row, or not refused where there is no reason.
+pub fn refused(reason: Option<Reason>, row: u32) -> Option<Refusal> {
+    reason.map(|reason| Refusal {
+        reason,
+        layer: Layer::Schema,
+        row,
+    })
 }
 
-// What is told, if the call was refused.
-pub fn refused(verdict: Result<(), SchemaFault>) -> Option<Told> {
-    verdict.err().map(|fault| told(Refusal::from(fault)))
+// How the indexing of the rows in these slots is refused, if it is.
+pub fn verdict(
+    rows: &SchemaRows<'_>,
+    type_slots: &mut [u32],
+    field_slots: &mut [u32],
+) -> Option<Refusal> {
+    index_rows(rows, type_slots, field_slots)
+        .err()
+        .map(Refusal::from)
 }
 
 fn all_empty(slots: &[u32]) -> bool {
-    slots.iter().all(|s| *s == 0)
+    slots.iter().all(|&slot| slot == 0)
 }
 
 // The rows come to this verdict in slots that are lent, which a refusal leaves empty, and as a schema of their own.
 pub fn come_to(
-    rt: &impl Abort,
-    heap: Global,
+    rt: &(impl Abort + AllocGlobal),
     rows: &SchemaRows<'_>,
-    expected: Option<Told>,
+    expected: Option<Refusal>,
 ) -> Result<(), Fail> {
-    let mut type_slots = vec![in heap; 0u32; 2048]?;
-    let mut field_slots = vec![in heap; 0u32; 8192]?;
-    let verdict = refused(index_rows(rows, type_slots.as_mut_slice(), field_slots.as_mut_slice()));
+    let mut type_slots = vec![in rt.alloc(); 0u32; 2048]?;
+    let mut field_slots = vec![in rt.alloc(); 0u32; 8192]?;
+    let indexed = verdict(rows, type_slots.as_mut_slice(), field_slots.as_mut_slice());
+    let made = TableSchema::new(rt.alloc(), rows).err().map(Refusal::from);
     assert_eq!(rt;
-        verdict,
-        expected,
+        [indexed, made],
+        [expected; 2],
         "{} types, {} fields",
         rows.types.len(),
         rows.fields.len()
@@ -115,15 +132,5 @@ pub fn come_to(
     if expected.is_some() {
         assert!(rt; all_empty(type_slots.as_slice()) && all_empty(field_slots.as_slice()));
     }
-    let made = TableSchema::new(heap, rows)
-        .err()
-        .map(|fault| told(Refusal::from(fault)));
-    assert_eq!(rt;
-        made,
-        expected,
-        "{} types, {} fields",
-        rows.types.len(),
-        rows.fields.len()
-    );
     Ok(())
 }
