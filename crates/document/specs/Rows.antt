@@ -1,5 +1,5 @@
 -- What rows hold besides their places, and the rules of their members.
-use Rattle.std.specs.Prelude.{ℕ, Bool, true, cond, not, ◌&&◌, ◌||◌, ◌==◌, nat_le, nat_lt, refl}
+use Rattle.std.specs.Prelude.{ℕ, List, [], ◌∷◌, Bool, true, cond, not, ◌&&◌, ◌||◌, ◌==◌, nat_le, nat_lt, refl}
 use Rattle.layout.specs.declared.row.RowView.{RowView}
 use Rattle.layout.specs.Shapes.{Shape, Rules, view_of}
 use Rattle.document.specs.declared.rows.DefinitionRow.{DefinitionRow}
@@ -102,6 +102,11 @@ selections =
       close_bare = λ r. refl;
     }
 
+-- a selection row's members in the order of the format
+abbrev pub selection_numbers : SelectionRow → List ℕ
+selection_numbers r =
+    r.kind ∷ r.name ∷ r.alias ∷ r.condition ∷ r.arguments ∷ r.directives ∷ r.location ∷ r.name_location ∷ r.condition_location ∷ r.end ∷ []
+
 -- what the layout sees of a selection row
 abbrev pub selection_view : SelectionRow → RowView
 selection_view = view_of selections selection_rules
@@ -136,6 +141,11 @@ head_of r =
       name_location = r.name_location;
       condition_location = r.condition_location;
     }
+
+-- a definition row's members in the order of the format
+abbrev pub definition_numbers : DefinitionRow → List ℕ
+definition_numbers r =
+    r.kind ∷ r.operation_type ∷ r.name ∷ r.condition ∷ r.variables ∷ r.directives ∷ r.location ∷ r.name_location ∷ r.condition_location ∷ r.first ∷ r.end ∷ []
 
 -- kinds of definitions: 1 operation, 2 fragment, 3 to 17 type system
 abbrev pub is_operation : Head → Bool

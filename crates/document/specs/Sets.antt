@@ -1,5 +1,5 @@
 -- Sets of selections, as they are read from the rows: each stands for a forest.
-use Rattle.std.specs.Prelude.{◌≡◌, ℕ, ◌+◌, ◌≤◌, cond, ◌||◌, List, length, Some, None, Option, nat_le, slice_index_or}
+use Rattle.std.specs.Prelude.{◌≡◌, ℕ, ◌+◌, ◌≤◌, cond, ◌||◌, List, length, Some, None, Option, nat_le, slice_get, slice_index_or, option_map, unwrap_or}
 use Rattle.layout.specs.Forest.{Forest, none, row}
 use Rattle.layout.specs.Shapes.{Stand}
 use Rattle.document.specs.declared.rows.DefinitionRow.{DefinitionRow}
@@ -22,7 +22,7 @@ no_definition_row =
 -- the set of a definition, by its place; an empty one past the last definition
 abbrev pub set_for : List DefinitionRow → ℕ → SelectionSet
 set_for definitions k =
-    cond (nat_le (length definitions) k) (set_of 0 0) (set_of (slice_index_or definitions k no_definition_row).first (slice_index_or definitions k no_definition_row).end)
+    unwrap_or (option_map (λ d. set_of d.first d.end) (slice_get definitions k)) (set_of 0 0)
 
 abbrev pub step_at : SelectionRow → ℕ → ℕ → SelectionStep
 step_at r place end = record { place = place; row = r; beneath = set_of (place + 1) r.end; after = set_of r.end end }

@@ -8,11 +8,13 @@ use crate::fault::DocumentFault;
 use crate::rows::DefinitionRow;
 use layout::RowFault;
 
-/// How many definitions and selection rows a document holds, and how deep selections stand.
+/// How many definitions a document holds.
 pub const MAX_DEFINITIONS: usize = 256;
 
+/// How many selection rows a document holds.
 pub const MAX_ROWS: usize = 4096;
 
+/// How deep the selections of a document stand.
 pub const MAX_DEPTH: u32 = 32;
 
 // Whether the definition's range is out of place, where it is to begin at `start`.

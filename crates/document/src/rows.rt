@@ -1,14 +1,14 @@
 // The rows of a document as they are handed over; any member may hold anything.
 ghost use Rattle.std.specs.Prelude.{◌≡◌};
 ghost use Rattle.document.specs.Kinds.{selection_kind, definition_kind};
-ghost use Rattle.document.specs.Rows.{selection_of, selection_unnamed, selection_broken, selection_view, head_of, head_unnamed, head_broken, is_fragment, is_type_system, named_operation};
+ghost use Rattle.document.specs.Rows.{selection_of, selection_unnamed, selection_broken, selection_view, head_of, head_unnamed, head_broken, is_fragment, is_type_system, named_operation, definition_numbers, selection_numbers};
 
 use crate::kinds::{DefinitionKind, SelectionKind};
 use layout::{Row, RowView};
 
 /// A definition: an operation (kind 1), a fragment (2), or a part of the type system (3 to 17).
 // Kept, the kinds of rows are numbers: so they are handed over, and may be of no kind.
-#[derive(Clone, Copy)]
+#[derive(Clone, Copy, Default)]
 pub struct DefinitionRow {
     pub kind: u32,
     pub operation_type: u32,
@@ -24,7 +24,7 @@ pub struct DefinitionRow {
 }
 
 /// A selection: a field (kind 1), a spread (2) or an inline fragment (3). Beneath it stand the rows up to its end.
-#[derive(Clone, Copy)]
+#[derive(Clone, Copy, Default)]
 pub struct SelectionRow {
     pub kind: u32,
     pub name: u32,
@@ -36,6 +36,72 @@ pub struct SelectionRow {
     pub name_location: u32,
     pub condition_location: u32,
     pub end: u32,
+}
+
+/// The definition with these members, in the order of the format.
+impl From<[u32; 11]> for DefinitionRow {
+    ghost from_gives = { λ numbers row. numbers ≡ definition_numbers row };
+
+    fn from(numbers: [u32; 11]) -> DefinitionRow {
+        let [
+            kind,
+            operation_type,
+            name,
+            condition,
+            variables,
+            directives,
+            location,
+            name_location,
+            condition_location,
+            first,
+            end,
+        ] = numbers;
+        DefinitionRow {
+            kind,
+            operation_type,
+            name,
+            condition,
+            variables,
+            directives,
+            location,
+            name_location,
+            condition_location,
+            first,
+            end,
+        }
+    }
+}
+
+/// The selection with these members, in the order of the format.
+impl From<[u32; 10]> for SelectionRow {
+    ghost from_gives = { λ numbers row. numbers ≡ selection_numbers row };
+
+    fn from(numbers: [u32; 10]) -> SelectionRow {
+        let [
+            kind,
+            name,
+            alias,
+            condition,
+            arguments,
+            directives,
+            location,
+            name_location,
+            condition_location,
+            end,
+        ] = numbers;
+        SelectionRow {
+            kind,
+            name,
+            alias,
+            condition,
+            arguments,
+            directives,
+            location,
+            name_location,
+            condition_location,
+            end,
+        }
+    }
 }
 
 impl SelectionRow {

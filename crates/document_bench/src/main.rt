@@ -15,19 +15,14 @@ const ROWS: u32 = 4096;
 const ROUNDS: u32 = 4000;
 
 // The one definition, an operation that has all rows.
-const OPERATION: DefinitionRow = DefinitionRow {
-    kind: 1,
-    operation_type: 0,
-    name: 12,
-    condition: 0,
-    variables: 0,
-    directives: 0,
-    location: 0,
-    name_location: 0,
-    condition_location: 0,
-    first: 0,
-    end: ROWS,
-};
+fn operation() -> DefinitionRow {
+    DefinitionRow {
+        kind: 1,
+        name: 12,
+        end: ROWS,
+        ..Default::default()
+    }
+}
 
 // Ends of rows by their places: none beneath another.
 fn flat(place: u32) -> u32 {
@@ -52,14 +47,8 @@ fn field_row(end: u32) -> SelectionRow {
     SelectionRow {
         kind: 1,
         name: 12,
-        alias: 0,
-        condition: 0,
-        arguments: 0,
-        directives: 0,
-        location: 0,
-        name_location: 0,
-        condition_location: 0,
         end,
+        ..Default::default()
     }
 }
 
@@ -106,7 +95,7 @@ fn measure_rows<F: Fn(u32) -> u32>(rt: &HostRuntime, what: &str, end_of: F) -> a
         .map(|place| field_row(end_of(place)))
         .collect(rt.alloc())?;
     let document = Document {
-        definitions: &[OPERATION],
+        definitions: &[operation()],
         rows: rows.as_slice(),
     };
     let keys = needs_answer(&document);

@@ -58,61 +58,13 @@ impl Part for FieldRow {
 
 impl Part for DefinitionRow {
     fn read(_heap: Global, words: &mut Words<'_>) -> Result<DefinitionRow, ReadFault> {
-        let [
-            kind,
-            operation_type,
-            name,
-            condition,
-            variables,
-            directives,
-            location,
-            name_location,
-            condition_location,
-            first,
-            end,
-        ] = numbers::<11>(words)?;
-        Ok(DefinitionRow {
-            kind,
-            operation_type,
-            name,
-            condition,
-            variables,
-            directives,
-            location,
-            name_location,
-            condition_location,
-            first,
-            end,
-        })
+        Ok(DefinitionRow::from(numbers::<11>(words)?))
     }
 }
 
 impl Part for SelectionRow {
     fn read(_heap: Global, words: &mut Words<'_>) -> Result<SelectionRow, ReadFault> {
-        let [
-            kind,
-            name,
-            alias,
-            condition,
-            arguments,
-            directives,
-            location,
-            name_location,
-            condition_location,
-            end,
-        ] = numbers::<10>(words)?;
-        Ok(SelectionRow {
-            kind,
-            name,
-            alias,
-            condition,
-            arguments,
-            directives,
-            location,
-            name_location,
-            condition_location,
-            end,
-        })
+        Ok(SelectionRow::from(numbers::<10>(words)?))
     }
 }
 

@@ -35,22 +35,16 @@ impl Document<'_> {
         Ok(())
     }
 
-    // Sizes first, then definitions, then rows.
-    fn check_in_order(&self) -> Result<(), DocumentFault>
-        ensures { result ≡ verdict_of (document_fault self.now.definitions.now self.now.rows.now) }
+    /// Whether the tables are a document, and of which there is then exactly one; else the first fault: of the sizes, of
+    /// rows without a definition, of the definitions, then of the rows. Nothing is changed.
+    #[tactic(auto, using(crate::proofs::Documents::judged))]
+    pub fn check(&self) -> Result<(), DocumentFault>
+        ensures verdict { result ≡ verdict_of (document_fault self.now.definitions.now self.now.rows.now) }
+        ensures lawful { MatchResult result (λ _. ReadsAsOne self.now.definitions.now self.now.rows.now) (λ _. ReadsAsNone self.now.definitions.now self.now.rows.now) }
     {
         check_sizes(self.definitions.len(), self.rows.len())?;
         self.check_orphans()?;
         check_definitions(self.definitions, self.rows.len())?;
         self.check_rows()
-    }
-
-    /// Whether the tables are a document, and of which there is then exactly one; else the first fault. Nothing is
-    /// changed.
-    pub fn check(&self) -> Result<(), DocumentFault>
-        ensures verdict { result ≡ verdict_of (document_fault self.now.definitions.now self.now.rows.now) }
-        ensures lawful { MatchResult result (λ _. ReadsAsOne self.now.definitions.now self.now.rows.now) (λ _. ReadsAsNone self.now.definitions.now self.now.rows.now) }
-    {
-        self.check_in_order()
     }
 }

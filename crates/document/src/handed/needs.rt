@@ -12,6 +12,7 @@ use super::sets::SelectionSet;
 use crate::fault::DocumentFault;
 use crate::kinds::SelectionKind;
 use crate::rows::SelectionRow;
+use std::iter;
 
 /// Places for a document: in the tables of operations, fragments and rows, in the error list, and for path keys.
 #[derive(Clone, Copy, PartialEq, Eq, Debug)]
@@ -41,13 +42,13 @@ impl Document<'_> {
         requires stands { (f : Forest Selection) × Holds self.now.rows.now set f × (above + depth f ≤ 32) }
         ensures { (f : Forest Selection) → Holds self.now.rows.now set f → result ≡ forest_keys above f }
     {
-        // Kept, as at `next_selection`: a set is read step by step.
+        let steps = iter::successors(self.next_selection(set), |step| {
+            self.next_selection(step.after)
+        });
         let mut total = 0;
-        let mut rest = set;
-        while let Some(step) = self.next_selection(rest) {
+        for step in steps.take(self.rows.len()) {
             let beneath = fields_beneath(above, &step.row);
             total += beneath + self.path_keys_in_set(step.beneath, beneath);
-            rest = step.after;
         }
         total
     }
