@@ -4,16 +4,21 @@ use document::{DefinitionKind, DefinitionRow, SelectionKind, SelectionRow};
 use schema::OperationType;
 use std::fmt;
 
+/// The word of the operation type with this number. A document that was checked has no other number.
+fn operation_word(operation_type: u32) -> &'static str {
+    match OperationType::try_from(operation_type) {
+        Ok(OperationType::Query) => "query",
+        Ok(OperationType::Mutation) => "mutation",
+        Ok(OperationType::Subscription) | Err(_) => "subscription",
+    }
+}
+
 /// A definition, as `fragment F on Meter`.
 impl fmt::Display for Shown<'_, '_, DefinitionRow> {
     fn fmt<W: fmt::Write>(&self, f: &mut fmt::Formatter<W>) -> fmt::Result {
         let row = self.value;
         let name = self.names.show(row.name);
-        let operation = match OperationType::try_from(row.operation_type) {
-            Ok(OperationType::Query) => "query",
-            Ok(OperationType::Mutation) => "mutation",
-            _ => "subscription",
-        };
+        let operation = operation_word(row.operation_type);
         match row.definition_kind() {
             Some(DefinitionKind::Operation) if row.name == 0 => write!(f, "anonymous {operation}"),
             Some(DefinitionKind::Operation) => write!(f, "{operation} {name}"),

@@ -6,16 +6,8 @@ use schema::Question;
 use std::alloc::{AllocError, Global};
 use table_schema::{FieldRow, SchemaRows, TypeRow};
 use text_input::{
-    DocumentHead, Line, LineReader, NameTable, ReadFault, SchemaHead, TableHead, TextError,
+    DocumentHead, Line, LineReader, NameTable, ReadFault, SchemaChoice, TableHead, TextError,
 };
-
-/// The schema of a section.
-// Kept: the open schema is a schema of its own, and `None` would read as a missing one.
-#[derive(Drop)]
-pub enum SchemaText {
-    Open,
-    Table(TableText),
-}
 
 /// The rows of a table as they were read.
 #[derive(Drop)]
@@ -37,16 +29,6 @@ impl TableText {
             fields: self.fields.as_slice(),
             roots: self.head.roots,
         }
-    }
-
-    /// Adds the row that the line says.
-    fn add(&mut self, line: Line<'_>) -> Result<(), AllocError> {
-        match line {
-            Line::Type(row) => self.types.push(row)?,
-            Line::Field(row) => self.fields.push(row)?,
-            _ => {}
-        }
-        Ok(())
     }
 
     /// Whether all rows were read that the first line counts.
@@ -76,16 +58,6 @@ impl DocumentText {
         }
     }
 
-    /// Adds the row that the line says.
-    fn add(&mut self, line: Line<'_>) -> Result<(), AllocError> {
-        match line {
-            Line::Definition(row) => self.definitions.push(row)?,
-            Line::Row(row) => self.rows.push(row)?,
-            _ => {}
-        }
-        Ok(())
-    }
-
     /// Whether all rows were read that the first line counts.
     pub fn is_complete(&self) -> bool {
         self.definitions.len() == self.head.definitions as usize
@@ -96,17 +68,17 @@ impl DocumentText {
 /// A schema, the questions to it, and documents.
 #[derive(Drop)]
 pub struct Section {
-    pub schema: SchemaText,
+    pub schema: SchemaChoice<TableText>,
     pub questions: Vec<Question>,
     pub documents: Vec<DocumentText>,
 }
 
 impl Section {
     /// A section with no rows, questions or documents yet.
-    fn new(heap: Global, head: SchemaHead) -> Section {
+    fn new(heap: Global, head: SchemaChoice<TableHead>) -> Section {
         let schema = match head {
-            SchemaHead::Open => SchemaText::Open,
-            SchemaHead::Table(head) => SchemaText::Table(TableText {
+            SchemaChoice::Open => SchemaChoice::Open,
+            SchemaChoice::Table(head) => SchemaChoice::Table(TableText {
                 head,
                 types: Vec::new(heap),
                 fields: Vec::new(heap),
@@ -122,22 +94,30 @@ impl Section {
     /// Whether all rows of the schema were read.
     pub fn is_complete(&self) -> bool {
         match &self.schema {
-            SchemaText::Open => true,
-            SchemaText::Table(table) => table.is_complete(),
+            SchemaChoice::Open => true,
+            SchemaChoice::Table(table) => table.is_complete(),
+        }
+    }
+
+    /// The table that is the schema, if it is one.
+    fn table(&mut self) -> Option<&mut TableText> {
+        match &mut self.schema {
+            SchemaChoice::Open => None,
+            SchemaChoice::Table(table) => Some(table),
         }
     }
 
     /// Adds what the line says: a row to the schema or to the last document, a question, or a document.
     fn add(&mut self, heap: Global, line: Line<'_>) -> Result<(), AllocError> {
         match line {
-            Line::Type(_) | Line::Field(_) => {
-                if let SchemaText::Table(table) = &mut self.schema {
-                    table.add(line)?;
+            Line::Type(row) => {
+                if let Some(table) = self.table() {
+                    table.types.push(row)?;
                 }
             }
-            Line::Definition(_) | Line::Row(_) => {
-                if let Some(document) = self.documents.last_mut() {
-                    document.add(line)?;
+            Line::Field(row) => {
+                if let Some(table) = self.table() {
+                    table.fields.push(row)?;
                 }
             }
             Line::Ask(question) => self.questions.push(question)?,
@@ -146,6 +126,16 @@ impl Section {
                 definitions: Vec::new(heap),
                 rows: Vec::new(heap),
             })?,
+            Line::Definition(row) => {
+                if let Some(document) = self.documents.last_mut() {
+                    document.definitions.push(row)?;
+                }
+            }
+            Line::Row(row) => {
+                if let Some(document) = self.documents.last_mut() {
+                    document.rows.push(row)?;
+                }
+            }
             Line::Schema(_) | Line::Name(_, _) | Line::Blank => {}
         }
         Ok(())
@@ -180,7 +170,7 @@ impl<'a> Reading<'a> {
         self.outcome = match self.read_lines(heap, text) {
             Ok(()) => Ok(()),
             Err(ReadFault::Text(error)) => Err(error),
-            Err(ReadFault::NoMemory) => return Err(AllocError),
+            Err(ReadFault::NoMemory(error)) => return Err(error),
         };
         Ok(())
     }

@@ -2,12 +2,12 @@
 use crate::answers::Answered;
 use crate::printer::Printer;
 use crate::refusals::Refused;
-use crate::sections::{Reading, SchemaText, Section, TableText};
+use crate::sections::{Reading, Section, TableText};
 use crate::shown::Shown;
 use schema::{OpenSchema, Question, Schema, ask};
 use std::alloc::{AllocError, Global};
 use table_schema::{MakeFault, SchemaFault, schema_with_meta_fields};
-use text_input::{Counted, LineReader};
+use text_input::{Counted, LineReader, SchemaChoice};
 
 /// The printout of the text: each schema with the answers to its questions and with its documents, and at the end what
 /// is wrong with the text, if anything is. Where something is, the rest of the text is not read.
@@ -38,11 +38,11 @@ impl<'n, 'a> Printer<'n, 'a> {
     fn section(&mut self, number: u64, section: &Section) -> Result<(), AllocError> {
         let questions = section.questions.as_slice();
         match &section.schema {
-            SchemaText::Open => {
+            SchemaChoice::Open => {
                 self.line(format_args!("Schema {number}: the open schema"))?;
                 self.answers(&OpenSchema, questions)?;
             }
-            SchemaText::Table(table) => {
+            SchemaChoice::Table(table) => {
                 let heading = Shown {
                     names: self.names,
                     value: table,

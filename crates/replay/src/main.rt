@@ -9,7 +9,6 @@ mod reading;
 mod verdict;
 mod words;
 
-use anyhow::anyhow;
 use parts::Case;
 use reading::{Part, ReadFault};
 use std::io;
@@ -43,7 +42,7 @@ fn replay(rt: &HostRuntime, text: &str) -> anyhow::Result<()> {
                 println!(rt; "bad text at number {number}")?;
                 break;
             }
-            Err(ReadFault::NoMemory) => return Err(anyhow!("no memory")),
+            Err(fault) => return Err(fault.into()),
         }
     }
     Ok(())

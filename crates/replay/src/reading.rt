@@ -2,25 +2,17 @@
 use crate::parts::{Case, DocumentPart, SchemaPart, Side, TableLengths, TablePart};
 use crate::words::Words;
 use document::{DefinitionRow, SelectionRow};
-use std::alloc::{AllocFailed, Global};
+use std::alloc::{AllocError, Global};
 use table_schema::{FieldRow, RootTypes, TypeRow};
+use thiserror::Error;
 
 /// Why a part was not read.
-#[derive(Clone, Copy, PartialEq, Eq, Debug)]
+#[derive(Clone, Copy, Debug, Error)]
 pub enum ReadFault {
+    #[error("bad text")]
     BadText,
-    NoMemory,
-}
-
-impl<T: Drop> From<AllocFailed<T>> for ReadFault {
-    ghost use Rattle.std.specs.Prelude.{◌≡◌};
-    ghost use Rattle.replay.specs.declared.reading.ReadFault.TheVariants.{NoMemory};
-
-    ghost from_gives = { λ _ fault. fault ≡ NoMemory };
-
-    fn from(_e: AllocFailed<T>) -> ReadFault {
-        ReadFault::NoMemory
-    }
+    #[error("no memory")]
+    NoMemory(#[from(alloc)] AllocError),
 }
 
 /// What is read from a text.
@@ -35,11 +27,7 @@ fn numbers<const N: usize>(words: &mut Words<'_>) -> Result<[u32; N], ReadFault>
 
 // So many parts, one after the other.
 fn read_all<P: Part>(heap: Global, words: &mut Words<'_>, count: u32) -> Result<Vec<P>, ReadFault> {
-    let mut parts = Vec::new(heap);
-    for _ in 0..count {
-        parts.push(P::read(heap, words)?)?;
-    }
-    Ok(parts)
+    (0..count).map(|_| P::read(heap, words)).try_collect(heap)
 }
 
 impl Part for TypeRow {

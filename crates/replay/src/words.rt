@@ -12,13 +12,6 @@ pub struct Words<'a> {
     taken: u64,
 }
 
-// The word list of the crate `text_input` has this test too: it is one line, and no reason to stand on that crate.
-fn begins_with_digit(word: &str) -> bool {
-    word.as_bytes()
-        .first()
-        .is_some_and(|byte| byte.is_ascii_digit())
-}
-
 impl<'a> Words<'a> {
     /// All numbers of the text.
     pub fn new(text: &'a str) -> Words<'a> {
@@ -36,7 +29,7 @@ impl<'a> Words<'a> {
     fn advance(&mut self) {
         self.ahead = None;
         for word in self.rest.by_ref() {
-            if begins_with_digit(word) {
+            if word.starts_with(|c: char| c.is_ascii_digit()) {
                 self.ahead = Some(word);
                 return;
             }

@@ -3,8 +3,9 @@ use Rattle.std.specs.Prelude.{◌-◌, Bool, true, false, cond, Some, None, Opti
 use Rattle.text_input.specs.declared.keywords.Keyword.{Keyword}
 use Rattle.text_input.specs.declared.keywords.Keyword.TheVariants as keyword
 use Rattle.text_input.specs.declared.lines.DocumentHead.{DocumentHead}
-use Rattle.text_input.specs.declared.lines.SchemaHead.{SchemaHead}
-use Rattle.text_input.specs.declared.lines.SchemaHead.TheVariants as schema
+use Rattle.text_input.specs.declared.lines.SchemaChoice.{SchemaChoice}
+use Rattle.text_input.specs.declared.lines.SchemaChoice.TheVariants as schema
+use Rattle.text_input.specs.declared.lines.TableHead.{TableHead}
 use Rattle.text_input.specs.declared.rows_left.RowsLeft.{RowsLeft}
 
 -- no row is still to come
@@ -22,7 +23,7 @@ no_rows =
     }
 
 -- the rows that follow the head of a schema
-abbrev pub rows_of_schema : SchemaHead → RowsLeft
+abbrev pub rows_of_schema : SchemaChoice TableHead → RowsLeft
 rows_of_schema schema.Open = no_rows
 rows_of_schema (schema.Table head) = record no_rows { types = head.types; fields = head.fields }
 

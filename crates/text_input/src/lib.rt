@@ -13,7 +13,7 @@ mod reader;
 mod rows_left;
 mod word_list;
 
-pub use lines::{DocumentHead, Line, SchemaHead, TableHead};
+pub use lines::{DocumentHead, Line, SchemaChoice, TableHead};
 pub use name_table::NameTable;
 pub use problems::{ReadFault, TextError};
 pub use reader::LineReader;

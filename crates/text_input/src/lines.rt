@@ -12,7 +12,7 @@ pub enum Line<'a> {
     /// Nothing: an empty line, or a comment alone.
     Blank,
     /// A new schema begins.
-    Schema(SchemaHead),
+    Schema(SchemaChoice<TableHead>),
     /// A type of the schema.
     Type(TypeRow),
     /// A field of the schema.
@@ -29,14 +29,12 @@ pub enum Line<'a> {
     Row(SelectionRow),
 }
 
-/// How a schema begins.
+/// The open schema, which has no rows, or a table under the meta-fields with what is known of it.
 // Kept: the open schema is a schema of its own, and `None` would read as a missing one.
-#[derive(Clone, Copy)]
-pub enum SchemaHead {
-    /// The open schema, which has no rows.
+#[derive(Clone, Copy, Drop)]
+pub enum SchemaChoice<T> {
     Open,
-    /// A table under the meta-fields.
-    Table(TableHead),
+    Table(T),
 }
 
 /// How many rows of a table follow, and its root types.
@@ -70,17 +68,17 @@ pub fn read_line<'a>(keyword: Keyword, words: &mut Words<'_, 'a>) -> Result<Line
 }
 
 /// `KIND NTYPES NFIELDS QUERY MUTATION SUBSCRIPTION`
-fn read_schema<'a>(words: &mut Words<'_, 'a>) -> Result<SchemaHead, Problem<'a>> {
+fn read_schema<'a>(words: &mut Words<'_, 'a>) -> Result<SchemaChoice<TableHead>, Problem<'a>> {
     match words.number()? {
         0 => {
             let head = read_head(words)?;
             if head == TableHead::default() {
-                Ok(SchemaHead::Open)
+                Ok(SchemaChoice::Open)
             } else {
                 Err(Problem::OpenWithRows)
             }
         }
-        1 => Ok(SchemaHead::Table(read_head(words)?)),
+        1 => Ok(SchemaChoice::Table(read_head(words)?)),
         kind => Err(Problem::UnknownSchemaKind(kind)),
     }
 }

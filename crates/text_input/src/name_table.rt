@@ -1,7 +1,7 @@
 // The texts of names: the fixed names have theirs from the start, the others by the lines that give them one.
 use crate::problems::Problem;
 use schema::Name;
-use schema::names::{FIXED_NAMES, QUERY, UNKNOWN};
+use schema::names::{QUERY, UNKNOWN, fixed_name};
 use std::alloc::{AllocError, Global};
 use std::collections::BTreeMap;
 use std::fmt;
@@ -20,8 +20,10 @@ impl<'a> NameTable<'a> {
             texts: BTreeMap::new(heap),
             numbers: BTreeMap::new(heap),
         };
-        for (number, text) in (QUERY..=UNKNOWN).zip(FIXED_NAMES) {
-            table.give(number, text)?;
+        for number in QUERY..=UNKNOWN {
+            if let Some(text) = fixed_name(number) {
+                table.give(number, text)?;
+            }
         }
         Ok(table)
     }
@@ -67,9 +69,7 @@ impl<'a> NameTable<'a> {
 
 /// Whether the word is to be read as a number.
 pub(crate) fn begins_with_digit(word: &str) -> bool {
-    word.as_bytes()
-        .first()
-        .is_some_and(|byte| byte.is_ascii_digit())
+    word.starts_with(|c: char| c.is_ascii_digit())
 }
 
 /// A name as it is printed: its text, or its number after `#`.

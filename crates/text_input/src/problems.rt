@@ -54,7 +54,7 @@ pub enum Problem<'a> {
     UnknownOperation(&'a str),
     /// The line, or the end of the text, stands out of place.
     #[error(transparent)]
-    Misplaced(Misplaced),
+    Misplaced(#[from] Misplaced),
 }
 
 /// A problem and the number of its line, from 1.
@@ -69,40 +69,7 @@ pub struct TextError<'a> {
 #[derive(Clone, Copy, Debug, Error)]
 pub enum ReadFault<'a> {
     #[error(transparent)]
-    Text(TextError<'a>),
+    Text(#[from] TextError<'a>),
     #[error("out of memory")]
-    NoMemory,
-}
-
-impl<'a> From<AllocError> for ReadFault<'a> {
-    ghost use Rattle.std.specs.Prelude.{◌≡◌};
-    ghost use Rattle.text_input.specs.declared.problems.ReadFault.TheVariants.{NoMemory};
-
-    ghost from_gives = { λ _ fault. fault ≡ NoMemory };
-
-    fn from(_e: AllocError) -> ReadFault<'a> {
-        ReadFault::NoMemory
-    }
-}
-
-impl<'a> From<TextError<'a>> for ReadFault<'a> {
-    ghost use Rattle.std.specs.Prelude.{◌≡◌};
-    ghost use Rattle.text_input.specs.declared.problems.ReadFault.TheVariants.{Text};
-
-    ghost from_gives = { λ error fault. fault ≡ Text error };
-
-    fn from(error: TextError<'a>) -> ReadFault<'a> {
-        ReadFault::Text(error)
-    }
-}
-
-impl<'a> From<Misplaced> for Problem<'a> {
-    ghost use Rattle.std.specs.Prelude.{◌≡◌};
-    ghost use Rattle.text_input.specs.declared.problems.Problem.TheVariants.{Misplaced};
-
-    ghost from_gives = { λ misplaced problem. problem ≡ Misplaced misplaced };
-
-    fn from(misplaced: Misplaced) -> Problem<'a> {
-        Problem::Misplaced(misplaced)
-    }
+    NoMemory(#[from(alloc)] AllocError),
 }

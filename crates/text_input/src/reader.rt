@@ -36,10 +36,14 @@ impl<'a> LineReader<'a> {
     pub fn read(&mut self, text: &'a str) -> Result<Line<'a>, ReadFault<'a>> {
         self.lines_read = self.lines_read.saturating_add(1);
         let number = self.lines_read;
-        let line = self.understand(text).map_err(|problem| TextError {
+        let understood = self.understand(text).map_err(|problem| TextError {
             line: number,
             problem,
         })?;
+        let Some((keyword, line)) = understood else {
+            return Ok(Line::Blank);
+        };
+        self.left = self.left.map(|left| left.after(keyword));
         self.note(line)?;
         Ok(line)
     }
@@ -55,11 +59,11 @@ impl<'a> LineReader<'a> {
         }
     }
 
-    /// What the line says, if it may stand here.
-    fn understand(&self, text: &'a str) -> Result<Line<'a>, Problem<'a>> {
+    /// The keyword of the line and what the line says, if it may stand here; nothing for a blank line.
+    fn understand(&self, text: &'a str) -> Result<Option<(Keyword, Line<'a>)>, Problem<'a>> {
         let mut words = Words::of_line(text, &self.names);
         let Some(first) = words.next_word() else {
-            return Ok(Line::Blank);
+            return Ok(None);
         };
         let keyword = first
             .parse::<Keyword>()
@@ -68,26 +72,22 @@ impl<'a> LineReader<'a> {
         words.take_form(keyword.form());
         let line = read_line(keyword, &mut words)?;
         words.end()?;
-        Ok(line)
+        Ok(Some((keyword, line)))
     }
 
-    /// Keeps what later lines depend on.
+    /// Keeps what later lines depend on: the rows that are to come, or a name's text.
     fn note(&mut self, line: Line<'a>) -> Result<(), AllocError> {
         match line {
             Line::Schema(head) => self.left = Some(RowsLeft::from(head)),
             Line::Document(head) => self.left = Some(RowsLeft::from(head)),
-            Line::Type(_) => self.count(Keyword::Type),
-            Line::Field(_) => self.count(Keyword::Field),
-            Line::Definition(_) => self.count(Keyword::Definition),
-            Line::Row(_) => self.count(Keyword::Row),
             Line::Name(name, text) => self.names.give(name, text)?,
-            Line::Ask(_) | Line::Blank => {}
+            Line::Type(_)
+            | Line::Field(_)
+            | Line::Definition(_)
+            | Line::Row(_)
+            | Line::Ask(_)
+            | Line::Blank => {}
         }
         Ok(())
-    }
-
-    /// Counts the line with this keyword among the rows that were to come.
-    fn count(&mut self, keyword: Keyword) {
-        self.left = self.left.map(|left| left.after(keyword));
     }
 }

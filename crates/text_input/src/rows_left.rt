@@ -3,7 +3,7 @@ ghost use Rattle.std.specs.Prelude.{◌≡◌};
 ghost use Rattle.text_input.specs.Places.{complete, after_line};
 
 use crate::keywords::Keyword;
-use crate::lines::{DocumentHead, SchemaHead};
+use crate::lines::{DocumentHead, SchemaChoice, TableHead};
 use std::fmt;
 
 /// The rows that are still to come: a schema's types and fields, or a document's definitions and rows.
@@ -49,16 +49,16 @@ impl RowsLeft {
     }
 }
 
-impl From<SchemaHead> for RowsLeft {
+impl From<SchemaChoice<TableHead>> for RowsLeft {
     ghost use Rattle.std.specs.Prelude.{◌≡◌};
     ghost use Rattle.text_input.specs.Places.{rows_of_schema};
 
     ghost from_gives = { λ head left. left ≡ rows_of_schema head };
 
-    fn from(head: SchemaHead) -> RowsLeft {
+    fn from(head: SchemaChoice<TableHead>) -> RowsLeft {
         match head {
-            SchemaHead::Open => RowsLeft::default(),
-            SchemaHead::Table(head) => RowsLeft {
+            SchemaChoice::Open => RowsLeft::default(),
+            SchemaChoice::Table(head) => RowsLeft {
                 types: head.types,
                 fields: head.fields,
                 ..RowsLeft::default()
