@@ -1,7 +1,6 @@
 // What a document says of itself: the places that building it can need, and its selections, set by set.
 use crate::tables::{definitions, selections};
 use document::{Document, Needs, SelectionSet};
-use std::alloc::Global;
 use std::process::Abort;
 use std::test::Fail;
 

@@ -1,5 +1,5 @@
 // The ordered index at its limit: every key at its place, a key more refused, a key again at its first place.
-use ordered_index::{Entered, Entry, Key, TypeField, agrees, enter, find, insert};
+use ordered_index::{Entered, Entry, TypeField, agrees, enter, find, insert};
 use std::alloc::{AllocError, Global};
 use std::process::Abort;
 use std::test::Fail;
