@@ -1,7 +1,7 @@
 // The ordered index slot by slot: where keys go that meet in one slot, around the end too, and which slots are no
 // sound index of the entries beside them.
-use crate::index_limit::{Named, Owned, fill, in_use};
-use ordered_index::{Entered, Entry, agrees, empty, enter, find, insert};
+use crate::index_limit::{Named, Owned, fill};
+use ordered_index::{Entered, Entry, agrees, empty, enter, find, in_use, insert};
 use std::alloc::{AllocError, Global};
 use std::process::Abort;
 use std::test::Fail;

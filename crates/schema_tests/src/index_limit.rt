@@ -1,5 +1,5 @@
 // The ordered index at its limit: every key at its place, a key more refused, a key again at its first place.
-use ordered_index::{Entered, Entry, TypeField, agrees, enter, find, insert};
+use ordered_index::{Entered, Entry, TypeField, agrees, enter, find, in_use, insert};
 use std::alloc::{AllocError, Global};
 use std::process::Abort;
 use std::test::Fail;
@@ -57,11 +57,6 @@ fn fields_from_both_ends(heap: Global, count: u32) -> Result<Vec<Owned>, AllocEr
             field: if i % 4 < 2 { 0 } else { u32::MAX },
         })
         .collect(heap)
-}
-
-// The entries in use: the first `count`, or all where there are fewer.
-pub fn in_use<E>(entries: &[E], count: usize) -> &[E] {
-    &entries[..count.min(entries.len())]
 }
 
 // Puts the entries in, each of which is to be new, and checks the index after each.
