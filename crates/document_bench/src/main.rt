@@ -1,18 +1,21 @@
 // Measures the check of a document and the count of its needs at the limit, 4,096 rows, in three shapes.
 //
-// The nanoseconds for a row go to standard error, since they differ from run to run. The sums of the answers, which do
-// not, go to standard output; each round starts from the sum of the one before it, so that no round can be left out.
+// The nanoseconds for a row go to standard error, the sums of the answers to standard output.
 #![tactic(auto)]
 
 use document::{DefinitionRow, Document, SelectionRow};
 use refusal::Refusal;
 use std::io;
-use std::time::{Duration, Instant};
+use timing::{Rounds, measure};
 
 const ROWS: u32 = 4096;
 
-// How often each measurement goes over its document.
-const ROUNDS: u32 = 4000;
+// How often each measurement goes over the rows of its document.
+const ROUNDS: Rounds<'static> = Rounds {
+    count: 4000,
+    size: ROWS as u64,
+    noun: "row",
+};
 
 // The one definition, an operation that has all rows.
 fn operation() -> DefinitionRow {
@@ -68,23 +71,16 @@ fn needs_answer(document: &Document<'_>) -> u64 {
     }
 }
 
-// Writes how long each row took, in tenths of a nanosecond.
-fn report(rt: &HostRuntime, what: &str, spent: Duration) -> io::Result<()> {
-    let rows = u64::from(ROUNDS).wrapping_mul(u64::from(ROWS));
-    let tenths = spent.as_nanos().wrapping_mul(10) / u128::from(rows.max(1));
-    let whole = tenths / 10;
-    let rest = tenths % 10;
-    eprintln!(rt; "{what}: {whole}.{rest} ns a row ({rows} rows)")
-}
-
 // Asks round after round; the sum of the answers.
-fn measure<F: Fn() -> u64>(rt: &HostRuntime, what: &str, ask: F) -> io::Result<u64>
+fn measure_answers<F: Fn() -> u64>(rt: &HostRuntime, what: &str, ask: F) -> io::Result<u64>
     requires { F.IsAlwaysCallable ask }
 {
-    let start = Instant::now(rt)?;
-    let sum = (0..ROUNDS).fold(0u64, |sum, _| sum.wrapping_mul(3).wrapping_add(ask()));
-    report(rt, what, start.elapsed(rt)?)?;
-    Ok(sum)
+    measure(
+        rt,
+        what,
+        ROUNDS,
+        |sum| sum.wrapping_mul(3).wrapping_add(ask()),
+    )
 }
 
 // Measures rows that end so: the places for path keys, and the sums of the answers.
@@ -100,8 +96,8 @@ fn measure_rows<F: Fn(u32) -> u32>(rt: &HostRuntime, what: &str, end_of: F) -> a
     };
     let keys = needs_answer(&document);
     eprintln!(rt; "{what}")?;
-    let checks = measure(rt, "  check", || check_answer(&document))?;
-    let needs = measure(rt, "  needs", || needs_answer(&document))?;
+    let checks = measure_answers(rt, "  check", || check_answer(&document))?;
+    let needs = measure_answers(rt, "  needs", || needs_answer(&document))?;
     println!(rt; "{what}: path keys {keys}, checks {checks}, needs {needs}")?;
     Ok(())
 }

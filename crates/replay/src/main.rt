@@ -31,6 +31,7 @@ fn print_case(rt: &HostRuntime, case: &Case) -> io::Result<()> {
 // Prints every case up to the end of the text, or up to the first number that is missing or too large.
 fn replay(rt: &HostRuntime, text: &str) -> anyhow::Result<()> {
     let mut words = Words::new(text);
+    // Kept: an iterator over the cases would borrow the words, which are asked for their place after a bad number.
     for _ in 0..u64::MAX {
         if words.is_at_end() {
             break;

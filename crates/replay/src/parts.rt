@@ -11,7 +11,8 @@ pub struct Case {
 }
 
 /// A schema: the open one, or a table.
-// Kept: the open schema is a schema of its own, and `None` would read as a missing one.
+// Kept: the open schema is a schema of its own, and `None` would read as a missing one. The crate `text_input` has such
+// an enum too, for its own text form; nothing else of it is of use here.
 #[derive(Drop)]
 pub enum SchemaPart {
     Open,

@@ -1,7 +1,6 @@
 // Measures the lookups of a table schema at its limit, 1,024 types and 4,096 fields, under the meta-fields.
 //
-// The nanoseconds of a lookup go to standard error, since they differ from run to run. The sums of the answers, which do
-// not, go to standard output; each round starts from the sum of the one before it, so that no round can be left out.
+// The nanoseconds of a lookup go to standard error, the sums of the answers to standard output.
 #![tactic(auto)]
 
 use anyhow::anyhow;
@@ -9,8 +8,9 @@ use schema::{FieldLookupError, MetaLayer, Name, OperationType, Schema, TypeKind,
 use std::alloc::{AllocError, Global};
 use std::io;
 use std::ops::Range;
-use std::time::{Duration, Instant};
+use std::time::Instant;
 use table_schema::{FieldRow, RootTypes, SchemaRows, TableSchema, TypeRow};
+use timing::{Rounds, measure};
 
 const TYPES: u32 = 1024;
 
@@ -105,16 +105,8 @@ fn root_worth(schema: &MetaLayer<TableSchema>, (type_name, _): Pair) -> u32 {
     schema.root_operation(operation).unwrap_or(0) ^ type_name
 }
 
-// Writes how long each of so many lookups took, in tenths of a nanosecond.
-fn report(rt: &HostRuntime, what: &str, spent: Duration, lookups: u64) -> io::Result<()> {
-    let tenths = spent.as_nanos().wrapping_mul(10) / u128::from(lookups.max(1));
-    let whole = tenths / 10;
-    let rest = tenths % 10;
-    eprintln!(rt; "{what}: {whole}.{rest} ns a lookup ({lookups} lookups)")
-}
-
 // Asks for every pair, round after round; the sum of what the answers are worth.
-fn measure<F: Fn(Pair) -> u32>(
+fn measure_pairs<F: Fn(Pair) -> u32>(
     rt: &HostRuntime,
     what: &str,
     pairs: &[Pair],
@@ -122,16 +114,16 @@ fn measure<F: Fn(Pair) -> u32>(
 ) -> io::Result<u64>
     requires { F.IsAlwaysCallable worth }
 {
-    let start = Instant::now(rt)?;
-    let mut sum = 0u64;
-    for _ in 0..ROUNDS {
-        for pair in pairs {
-            sum = sum.wrapping_add(u64::from(worth(*pair)));
-        }
-    }
-    let lookups = u64::from(ROUNDS).wrapping_mul(pairs.len() as u64);
-    report(rt, what, start.elapsed(rt)?, lookups)?;
-    Ok(sum)
+    let rounds = Rounds {
+        count: ROUNDS,
+        size: pairs.len() as u64,
+        noun: "lookup",
+    };
+    measure(rt, what, rounds, |sum| {
+        pairs
+            .iter()
+            .fold(sum, |sum, pair| sum.wrapping_add(u64::from(worth(*pair))))
+    })
 }
 
 // Asks for the field of every pair.
@@ -141,7 +133,7 @@ fn measure_fields(
     what: &str,
     pairs: Vec<Pair>,
 ) -> io::Result<u64> {
-    measure(rt, what, pairs.as_slice(), |pair| field_worth(schema, pair))
+    measure_pairs(rt, what, pairs.as_slice(), |pair| field_worth(schema, pair))
 }
 
 fn measure_hits(
@@ -170,13 +162,13 @@ fn measure_misses(rt: &HostRuntime, schema: &MetaLayer<TableSchema>) -> anyhow::
 
 fn measure_others(rt: &HostRuntime, schema: &MetaLayer<TableSchema>) -> anyhow::Result<()> {
     let pairs = pairs_with(rt.alloc(), KNOWN_TYPES, NO_FIELD)?;
-    let kinds = measure(
+    let kinds = measure_pairs(
         rt,
         "kind of a type",
         pairs.as_slice(),
         |pair| kind_worth(schema, pair),
     )?;
-    let roots = measure(
+    let roots = measure_pairs(
         rt,
         "root operation",
         pairs.as_slice(),
