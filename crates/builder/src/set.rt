@@ -103,7 +103,8 @@ fn open_in(row: &SelectionRow, place: u32, inner: u32) -> StoredRow
 
 // Builds a set in the type around it. The tables have room for all that it can store and list.
 // Kept: three lent tables and a count of what is filled, side by side. A struct of `&mut` slices is no plainer: each
-// function would have to promise of each slice that it is still the same one.
+// function would have to promise of each slice that it is still the same one. And a loop over the steps of a set: a
+// chain of them would need a bound, and the tables change at each step.
 pub fn build_set<S: Schema>(
     schema: &S,
     document: &Document<'_>,

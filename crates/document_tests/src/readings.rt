@@ -92,13 +92,11 @@ fn set_is(
 
 // The set that is so many steps beneath a definition's, each to the set beneath the first selection.
 fn set_beneath(document: &Document<'_>, definition: usize, steps: u32) -> SelectionSet {
-    let mut set = document.selections(definition);
-    for _ in 0..steps {
-        if let Some(step) = document.next_selection(set) {
-            set = step.beneath;
-        }
-    }
-    set
+    (0..steps).fold(document.selections(definition), |set, _| {
+        document
+            .next_selection(set)
+            .map_or(set, |step| step.beneath)
+    })
 }
 
 // A definition, steps beneath it, and the places of the selections there.

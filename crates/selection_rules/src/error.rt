@@ -86,6 +86,7 @@ pub enum BuildError {
 
 impl BuildError {
     /// The number of the case: 1 to 10.
+    // Kept, a match: cases that carry something are no numbers by themselves.
     pub fn code(self) -> u32
         ensures { result ≡ code_of self }
     {

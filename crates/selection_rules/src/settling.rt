@@ -20,6 +20,7 @@ pub enum SelectionFault {
 }
 
 /// What becomes of a selection.
+// Kept: no `Option` or `Result` has these three outcomes, and a caller names each of them.
 #[derive(Clone, Copy)]
 pub enum Settled {
     /// It is stored, with the place of its definition and the type of the set beneath it.

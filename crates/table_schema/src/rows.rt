@@ -7,6 +7,7 @@ use ordered_index::{Entry, TypeField};
 use schema::{FieldDefinition, Name, OperationType, name_or_none};
 
 /// A type: its name and the number of its kind, 1 to 6.
+// Kept, the kind is a number: so rows are handed over, and may be of no kind.
 #[derive(Clone, Copy)]
 pub struct TypeRow {
     pub name: u32,
@@ -22,6 +23,7 @@ pub struct FieldRow {
 }
 
 /// The names of the root types, 0 for none.
+// Kept, no `Option`: the roots are handed over with the rows, as numbers.
 #[derive(Clone, Copy, PartialEq, Eq, Default, Debug)]
 pub struct RootTypes {
     pub query: Name,
