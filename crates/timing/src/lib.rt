@@ -4,6 +4,9 @@
 // handed back; each round starts from the sum of the one before it, so that no round can be left out.
 #![tactic(auto)]
 
+ghost use Rattle.std.specs.Prelude.{IfOk};
+ghost use Rattle.timing.specs.Rounds.{After};
+
 use std::io;
 use std::rt::Clock;
 use std::time::{Duration, Instant};
@@ -35,9 +38,22 @@ pub fn measure<F: Fn(u64) -> u64>(
     round: F,
 ) -> io::Result<u64>
     requires { F.IsAlwaysCallable round }
+    ensures { IfOk result (After (F.post round) rounds.entry.count 0) }
 {
     let start = Instant::now(rt)?;
-    let sum = (0..rounds.count).fold(0u64, |sum, _| round(sum));
+    let sum = go_round(rounds.count, round);
     report(rt, what, rounds, start.elapsed(rt)?)?;
     Ok(sum)
+}
+
+// So many rounds, the first from 0: the last answer.
+fn go_round<F: Fn(u64) -> u64>(count: u32, round: F) -> u64
+    requires { F.IsAlwaysCallable round }
+    ensures { After (F.post round) count 0 result }
+{
+    let mut sum = 0;
+    for turn in 0..count {
+        sum = round(sum);
+    }
+    sum
 }
