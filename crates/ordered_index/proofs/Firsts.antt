@@ -1,9 +1,9 @@
 -- Where a key is located is the place of the first key that equals it.
-use Rattle.std.proofs.Common.{◌≡◌, ℕ, zero, suc, ◌+◌, ◌<◌, ◌≤◌, Bool, true, false, cond, List, [], ◌∷◌, ◌++◌, map, length, get_or, Some, None, Option, sym, refl, ap, ◌∙◌, ⊎_elim, arith}
-use Rattle.std.proofs.lemmas.List.{take_all, map_more, length-map}
+use Rattle.std.proofs.Common.{◌≡◌, ℕ, zero, suc, ◌+◌, ◌<◌, Bool, true, false, cond, List, [], ◌∷◌, ◌++◌, map, length, get_or, Some, None, Option, sym, refl, ap, ◌∙◌, ⊎_elim, arith}
+use Rattle.std.proofs.lemmas.List.{map_more}
 use Rattle.std.proofs.lemmas.Bool.{cond-true, cond-false, cases_Bool}
 use Rattle.std.specs.List.{position_from}
-use Rattle.ordered_index.specs.Sound.{Located, Only, keys_of}
+use Rattle.ordered_index.specs.Sound.{Located, keys_of}
 
 -- no element passes
 pub first_none : {X : Type 0} (p : X → Bool) (xs : List X) (k : ℕ) → ((n : ℕ) (d : X) → n < length xs → p (get_or xs n d) ≡ false) → position_from p k xs ≡ None
@@ -43,16 +43,7 @@ pub located_place : {E K : Type 0} (keyed : E → K) (equal : K → K → Bool) 
 located_place keyed equal entries q r here =
     located_first equal (map keyed entries) q r here ∙ first_map keyed (λ k. equal k q) entries 0
 
--- a place that is located is one of the entries
-pub located_inside : {E K : Type 0} (keyed : E → K) (equal : K → K → Bool) (entries : List E) (q : K) (n : ℕ)
-    → Only equal (map keyed entries) q n → n < length entries
-located_inside keyed equal entries q n only = omega (arith, only.stands.inside, length-map entries keyed)
-
 -- the keys of one entry more
 pub keys_more : {E K : Type 0} (keyed : E → K) (entries : List E) (i : ℕ) (d : E) → i < length entries
     → keys_of keyed i entries ++ keyed (get_or entries i d) ∷ [] ≡ keys_of keyed (i + 1) entries
 keys_more keyed entries i d low = sym (map_more keyed entries i d low)
-
--- the keys of all entries
-pub keys_all : {E K : Type 0} (keyed : E → K) (entries : List E) (n : ℕ) → length entries ≤ n → keys_of keyed n entries ≡ map keyed entries
-keys_all keyed entries n all = ap (map keyed) (take_all n entries all)

@@ -2,18 +2,13 @@
 use Rattle.std.proofs.Common.{◌≡◌, ℕ, zero, suc, ◌+◌, ◌-◌, ◌%◌, ◌<◌, ◌≤◌, Bool, true, false, ◌&&◌, eqb, leb, List, map, length, get_or, sym, refl, ap, ◌∙◌, subst, ⊎_elim, add-zero, add_assoc, mod-lt, arith, below_more}
 use native.Mathlib.Nat.{mod-add-mod}
 use Rattle.std.proofs.lemmas.List.{get_or_default, get_or-map, length-map}
-use Rattle.std.proofs.lemmas.Bool.{cond-true, cond-false, cond_both, eq-eqb, ne_eqb, eqb-true, eqb-false, leb-true, leb-false, le-leb, lt-leb, and_left, and_parts, and_cases}
+use Rattle.std.proofs.lemmas.Bool.{cond-true, cond-false, cond_both, ne_eqb, eqb-true, eqb-false, leb-true, leb-false, le-leb, lt-leb, and_left, and_parts, and_cases}
 use Rattle.ordered_index.specs.Slots.{spot, held, slot_after, slot_start}
 use Rattle.ordered_index.specs.Probing.{names, probe}
-use Rattle.ordered_index.specs.declared.probe.Probed.TheVariants.{Found, Vacant, Round}
+use Rattle.ordered_index.specs.declared.probe.Probed.TheVariants.{Found, Vacant}
 use Rattle.ordered_index.proofs.Ways.{Missed, AllMissed, Outcome}
 
 module _ {K : Type 0} (equal : K → K → Bool) (keys : List K) (slots : List ℕ) (q : K) where
-  -- an empty slot ends the probe
-  pub probe_vacant : (at left rest : ℕ) → left ≡ suc rest → get_or slots at 0 ≡ 0 → probe equal keys slots q at left ≡ Vacant at
-  probe_vacant at left rest more none =
-      ap (probe equal keys slots q at) more ∙ cond-true _ _ _ (eq-eqb _ _ none)
-
   -- a slot that names an equal key ends it too
   pub probe_found : (at left rest : ℕ) → left ≡ suc rest → (get_or slots at 0 ≡ 0 → ⊥) → names equal keys q (get_or slots at 0) ≡ true
       → probe equal keys slots q at left ≡ Found (get_or slots at 0 - 1)
@@ -25,9 +20,6 @@ module _ {K : Type 0} (equal : K → K → Bool) (keys : List K) (slots : List �
       → probe equal keys slots q at left ≡ probe equal keys slots q (slot_after at (length slots)) rest
   probe_next at left rest more some other =
       ap (probe equal keys slots q at) more ∙ cond-false _ _ _ (ne_eqb _ _ some) ∙ cond-false _ _ _ other
-
-  pub probe_round : (at left : ℕ) → left ≡ 0 → probe equal keys slots q at left ≡ Round
-  probe_round at left none = ap (probe equal keys slots q at) none
 
 module _ {K : Type 0} (equal : K → K → Bool) (keys : List K) (slots : List ℕ) (q : K) (h : ℕ) where
   -- the slot after d + 1 others is the one after the slot after d others

@@ -13,9 +13,6 @@ module _ {F G : Type 0} (told : F → ℕ → G) (fault : ℕ → Option F) wher
   pub fault_here : (i left rest : ℕ) (f : F) → left ≡ suc rest → fault i ≡ Some f → first_fault told fault i left ≡ Some (told f (i + 1))
   fault_here i left rest f more here = grind arith
 
-  pub fault_none : (i left : ℕ) → left ≡ 0 → first_fault told fault i left ≡ None
-  fault_none i left none = grind arith
-
   pub at_row_none : (i : ℕ) (f : Option F) (rest : Option G) → at_row told i f rest ≡ None → (f ≡ None) × (rest ≡ None)
   at_row_none i None rest is = (refl, is)
   at_row_none i (Some x) rest is = grind arith
