@@ -77,6 +77,7 @@ fn list_fault(
 
 // What becomes of a selection in the type around it, told with the type around what stands beneath it: nothing stands
 // beneath a spread, so that type is the one around the spread.
+// Kept beside `settle`, which promises the set type 0 for a spread.
 fn settle_in<S: Schema>(schema: &S, around: u32, row: &SelectionRow, beneath: bool) -> Settled
     ensures { result ≡ settled_in (S.Schema.meaning schema.now) around (selection_of row.now) beneath }
 {
@@ -90,7 +91,7 @@ fn settle_in<S: Schema>(schema: &S, around: u32, row: &SelectionRow, beneath: bo
 }
 
 // The row of a selection whose set is not closed yet, where the type around what stands beneath it is `inner`. A spread has
-// no set.
+// no set, so that this stands beside `StoredRow::open`.
 fn open_in(row: &SelectionRow, place: u32, inner: u32) -> StoredRow
     ensures { result ≡ stored_row (stored_in (selection_of row.now) place inner) 0 }
 {

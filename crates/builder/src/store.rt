@@ -65,6 +65,7 @@ fn root_name_of(row: &DefinitionRow) -> ExecutableDefinitionName
 }
 
 // Enters a definition whose name is not yet taken behind the others of its table, and tells how many there are then.
+// Kept: the count stands beside the table, which is lent and longer than what stands in it.
 fn enter_definition(
     definition: StoredDefinition,
     entries: &mut [StoredDefinition],

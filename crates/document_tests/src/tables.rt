@@ -32,6 +32,7 @@ pub const QUERY: DefinitionMembers = [1, 0, 0, 0, 0, 0, 0, 0, 0];
 
 pub const FIELD: SelectionMembers = [1, 9, 0, 0, 0, 0, 0, 0, 0];
 
+// Kept, member by member: what a test varies is the members without the range.
 pub fn definition(members: DefinitionMembers, first: u32, end: u32) -> DefinitionRow {
     let [
         kind,
@@ -59,6 +60,7 @@ pub fn definition(members: DefinitionMembers, first: u32, end: u32) -> Definitio
     }
 }
 
+// Kept, as for a definition.
 pub fn selection(members: SelectionMembers, end: u32) -> SelectionRow {
     let [
         kind,

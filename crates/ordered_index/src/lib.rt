@@ -2,7 +2,8 @@
 //
 // An index is a row of slots beside a table of entries; both are lent by the caller. A slot holds 0, or the place of
 // an entry plus 1. One text serves every type of entry and key. No call asks anything of its caller: on slots and
-// entries that are no sound index each call still answers what the probe, as defined, comes to.
+// entries that are no sound index each call still answers what the probe, as defined, comes to. So in its promises that
+// the index is sound is a premise, and no invariant of a type.
 #![tactic(auto)]
 
 mod check;
