@@ -1,4 +1,5 @@
 -- The definitions that the contracts of the crate cite, in the order in which they are needed.
+pub mod Refusals
 pub mod Filling
 pub mod Holding
 pub mod Naming

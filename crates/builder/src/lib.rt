@@ -1,10 +1,21 @@
 // Building executable documents: definitions are taken in order, typed, and stored; errors are listed with their paths.
 #![tactic(auto)]
 
+mod builder;
+mod fault;
 mod filled;
+mod judge;
+mod limits;
 mod named;
 mod path;
 mod progress;
 mod ruling;
 mod set;
 mod store;
+mod take;
+
+pub use builder::ExecutableDocumentBuilder;
+pub use fault::BuilderFault;
+pub use limits::{
+    INDEX_SLOTS, MAX_ERRORS, MAX_FRAGMENTS, MAX_OPERATIONS, MAX_PATH_KEYS, MAX_STORED_ROWS,
+};

@@ -40,7 +40,7 @@ fn list_one(error: Option<BuildError>, errors: &mut [BuildError], at: usize) -> 
 }
 
 // Lists the errors of a definition itself.
-fn list_ruling(ruling: &Ruling, errors: &mut [BuildError], at: usize) -> usize
+pub fn list_ruling(ruling: &Ruling, errors: &mut [BuildError], at: usize) -> usize
     requires { at + 2 ≤ length errors.old }
     ensures listed { errors.new ≡ put errors.old at (told ruling.now) }
     ensures counted { result ≡ at + length (told ruling.now) }
@@ -50,7 +50,7 @@ fn list_ruling(ruling: &Ruling, errors: &mut [BuildError], at: usize) -> usize
 }
 
 // The definition at which the paths of its selections start.
-fn root_name_of(row: &DefinitionRow) -> ExecutableDefinitionName
+pub fn root_name_of(row: &DefinitionRow) -> ExecutableDefinitionName
     ensures { result ≡ root_name (head_of row.now) }
 {
     match row.definition_kind() {
@@ -87,7 +87,7 @@ fn enter_definition(
 
 // Keeps a definition: the anonymous operation beside the tables, every other one in its table.
 // Kept: the lent tables side by side, as in building a set.
-fn keep_definition(
+pub fn keep_definition(
     definition: StoredDefinition,
     progress: Progress,
     operations: &mut [StoredDefinition],

@@ -152,21 +152,21 @@ impl DefinitionRow {
     }
 
     /// Whether a name is 0 that this kind of definition needs.
-    pub(crate) fn is_unnamed(&self) -> bool
+    pub fn is_unnamed(&self) -> bool
         ensures { result ≡ head_unnamed (head_of self.now) }
     {
         self.is_fragment() && (self.name == 0 || self.condition == 0)
     }
 
     /// Whether the definition is an operation that has a name.
-    pub(crate) fn is_named_operation(&self) -> bool
+    pub fn is_named_operation(&self) -> bool
         ensures { result ≡ named_operation (head_of self.now) }
     {
         matches!(self.definition_kind(), Some(DefinitionKind::Operation)) && self.name != 0
     }
 
     /// Whether the definition is a fragment.
-    pub(crate) fn is_fragment(&self) -> bool
+    pub fn is_fragment(&self) -> bool
         ensures { result ≡ is_fragment (head_of self.now) }
     {
         matches!(self.definition_kind(), Some(DefinitionKind::Fragment))
@@ -180,7 +180,7 @@ impl DefinitionRow {
     }
 
     /// Whether a member that this kind of definition does not use is not 0, or there is no such kind.
-    pub(crate) fn is_broken(&self) -> bool
+    pub fn is_broken(&self) -> bool
         ensures { result ≡ head_broken (head_of self.now) }
     {
         match self.definition_kind() {

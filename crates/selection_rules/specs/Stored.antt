@@ -1,7 +1,8 @@
 -- Stored selections: a selection with the place of its definition and the type of the set beneath it.
-use Rattle.std.specs.Prelude.{ℕ, cond, refl}
-use Rattle.layout.specs.Shapes.{Shape}
-use Rattle.document.specs.Rows.{Selection, selection_of, selection_row, is_field, is_spread}
+use Rattle.std.specs.Prelude.{ℕ, Bool, cond, ◌&&◌, ◌||◌, refl}
+use Rattle.layout.specs.declared.row.RowView.{RowView}
+use Rattle.layout.specs.Shapes.{Shape, Rules, view_of}
+use Rattle.document.specs.Rows.{Selection, selection_of, selection_row, selection_unnamed, selection_broken, is_field, is_spread, is_inline, is_set}
 use Rattle.selection_rules.specs.declared.stored.StoredRow.{StoredRow}
 
 -- the forms of a selection: kind 1 is a field, 2 a spread, 3 an inline fragment
@@ -49,3 +50,20 @@ stored_selections =
       end_close = λ a e. refl;
       close_bare = λ r. refl;
     }
+
+-- a spread has neither a place nor a set type, and an inline fragment has no place
+abbrev pub answers_broken : Stored → Bool
+answers_broken x = (is_spread x.selection && (is_set x.place || is_set x.set_type)) || (is_inline x.selection && is_set x.place)
+
+-- the rules of stored selections: those of selections, and these
+abbrev pub stored_rules : Rules Stored
+stored_rules =
+    record {
+      unnamed = λ x. selection_unnamed x.selection;
+      broken = λ x. selection_broken x.selection || answers_broken x;
+      leaf = λ x. is_spread x.selection;
+    }
+
+-- what the layout sees of a stored row
+abbrev pub stored_view : StoredRow → RowView
+stored_view = view_of stored_selections stored_rules

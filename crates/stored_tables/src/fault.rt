@@ -1,0 +1,32 @@
+// What is wrong with stored definitions and rows that are handed back, in words.
+ghost use Rattle.std.specs.Prelude.{◌≡◌};
+ghost use Rattle.stored_tables.specs.Verdict.{row_of};
+
+use thiserror::Error;
+
+/// The first that breaks the layout. A definition is told by its place in its table plus 1, a row by its place plus 1.
+#[derive(Clone, Copy, PartialEq, Eq, Debug, Error)]
+pub enum StoredFault {
+    #[error("the stored anonymous operation breaks the layout")]
+    InAnonymous,
+    #[error("stored operation {0} breaks the layout")]
+    InOperations(u32),
+    #[error("stored fragment {0} breaks the layout")]
+    InFragments(u32),
+    #[error("stored row {0} breaks the layout")]
+    InRows(u32),
+}
+
+impl StoredFault {
+    /// The place, plus 1, of what is at fault in its table; 0 for the anonymous operation, which stands in none.
+    pub fn row(self) -> u32
+        ensures { result ≡ row_of self }
+    {
+        match self {
+            StoredFault::InAnonymous => 0,
+            StoredFault::InOperations(row)
+            | StoredFault::InFragments(row)
+            | StoredFault::InRows(row) => row,
+        }
+    }
+}
