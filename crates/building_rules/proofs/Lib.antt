@@ -5,6 +5,7 @@ pub mod Rows
 pub mod Keeping
 pub mod Names
 pub mod Definitions
+pub mod Steps
 pub mod Joined
 pub mod GoesOn
 pub mod Wholes
