@@ -11,3 +11,4 @@ pub mod GoesOn
 pub mod Wholes
 pub mod Dangling
 pub mod Fits
+pub mod Storable

@@ -1,7 +1,7 @@
 -- What becomes of a definition: it is stored exactly where nothing that is stored stands against it, and its type is known.
 use Rattle.std.proofs.Common.{◌≡◌, ℕ, Bool, true, false, List, [], ◌∷◌, Some, None, Option, refl}
 use Rattle.schema.specs.Meaning.{Meaning}
-use Rattle.building_rules.specs.Definitions.{Accepted, Role, anonymous_operation, named_operation, fragment, type_system, role_of, operation_of, Taken, taken_at, State, with_anonymous, with_operation, with_fragment, Outcome, rooted, add_anonymous, add_named, add_fragment, step_of, step}
+use Rattle.building_rules.specs.Definitions.{Accepted, Role, anonymous_operation, named_operation, fragment, type_system, role_of, operation_of, Taken, taken_at, State, with_anonymous, with_operation, Outcome, rooted, add_anonymous, add_named, add_fragment, step_of, step}
 use Rattle.building_rules.specs.Chosen.{kept_with}
 use Rattle.building_rules.proofs.Definitions.{advance}
 
