@@ -6,6 +6,7 @@ pub mod Keeping
 pub mod Names
 pub mod Definitions
 pub mod Steps
+pub mod Read
 pub mod Joined
 pub mod GoesOn
 pub mod Wholes

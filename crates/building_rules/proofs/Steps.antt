@@ -1,7 +1,9 @@
 -- What becomes of a definition: it is stored exactly where nothing that is stored stands against it, and its type is known.
 use Rattle.std.proofs.Common.{◌≡◌, ℕ, Bool, true, false, List, [], ◌∷◌, Some, None, Option, refl}
+use Rattle.std.proofs.lemmas.Bool.{false≢true}
 use Rattle.schema.specs.Meaning.{Meaning}
 use Rattle.building_rules.specs.Definitions.{Accepted, Role, anonymous_operation, named_operation, fragment, type_system, role_of, operation_of, Taken, taken_at, State, with_anonymous, with_operation, Outcome, rooted, add_anonymous, add_named, add_fragment, step_of, step}
+use Rattle.building_rules.specs.Rules.{anonymous_role, named_role, fragment_role}
 use Rattle.building_rules.specs.Chosen.{kept_with}
 use Rattle.building_rules.proofs.Definitions.{advance}
 
@@ -23,6 +25,22 @@ pub data Becomes (m : Meaning) (s : State) (d : Accepted) (o : Outcome) : Type 0
   passes : o.kept ≡ [] → Same s o.next → ((around : ℕ) → Stores m s d around → ⊥) → Becomes m s d o
 
 module _ (m : Meaning) (s : State) (d : Accepted) where
+  -- a definition that is stored has a name that is not taken, and an anonymous one is the first
+  pub operation_free : {around : ℕ} → Stores m s d around → named_role (role_of d.head) ≡ true → taken_at d.head.name s.operations ≡ None
+  operation_free (as_anonymous around w a b r) e = absurd (false≢true (rw w at e))
+  operation_free (as_named around w f r) e = f
+  operation_free (as_fragment w f k) e = absurd (false≢true (rw w at e))
+
+  pub fragment_free : {around : ℕ} → Stores m s d around → fragment_role (role_of d.head) ≡ true → taken_at d.head.name s.fragments ≡ None
+  fragment_free (as_anonymous around w a b r) e = absurd (false≢true (rw w at e))
+  fragment_free (as_named around w f r) e = absurd (false≢true (rw w at e))
+  fragment_free (as_fragment w f k) e = f
+
+  pub anonymous_free : {around : ℕ} → Stores m s d around → anonymous_role (role_of d.head) ≡ true → s.anonymous ≡ None
+  anonymous_free (as_anonymous around w a b r) e = a
+  anonymous_free (as_named around w f r) e = absurd (false≢true (rw w at e))
+  anonymous_free (as_fragment w f k) e = absurd (false≢true (rw w at e))
+
   same : Same s s
   same = record { anonymous = refl; operations = refl; fragments = refl }
 

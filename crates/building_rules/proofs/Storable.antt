@@ -18,7 +18,7 @@ use Rattle.building_rules.specs.Storable.{Sound, Storable, kept_named, KeptIsSto
 use Rattle.building_rules.specs.Chosen.{kept_with}
 use Rattle.building_rules.proofs.Settling.{View, stays, drops, faults, view}
 use Rattle.building_rules.proofs.Fits.{build_small}
-use Rattle.building_rules.proofs.Steps.{Stores, as_anonymous, as_named, as_fragment, Becomes, becomes}
+use Rattle.building_rules.proofs.Steps.{Stores, as_anonymous, as_named, as_fragment, operation_free, fragment_free, anonymous_free, Becomes, becomes}
 
 -- Rows
 
@@ -122,7 +122,7 @@ kept_named_join : (test : Role → Bool) (n : ℕ) (xs ys : List Kept) → kept_
 kept_named_join test n [] ys = omega arith
 kept_named_join test n (k ∷ xs) ys = let rest = kept_named_join test n xs ys in omega arith
 
-pub all_join : {A : Type 0} (P : A → Type 0) (xs ys : List A) → AllByRecursion P xs → AllByRecursion P ys → AllByRecursion P (xs ++ ys)
+all_join : {A : Type 0} (P : A → Type 0) (xs ys : List A) → AllByRecursion P xs → AllByRecursion P ys → AllByRecursion P (xs ++ ys)
 all_join P [] ys p q = q
 all_join P (x ∷ xs) ys p q = (p.0, all_join P xs ys p.1 q)
 
@@ -134,21 +134,6 @@ record Roomy (s t : State) (ks : List Kept) : Type 0 where
   anonymous : (n : ℕ) → kept_named anonymous_role n ks + room t.anonymous ≤ room s.anonymous
 
 module _ (m : Meaning) (s : State) (d : Accepted) where
-  operation_free : {around : ℕ} → Stores m s d around → named_role (role_of d.head) ≡ true → taken_at d.head.name s.operations ≡ None
-  operation_free (as_anonymous around w a b r) e = absurd (false≢true (rw w at e))
-  operation_free (as_named around w f r) e = f
-  operation_free (as_fragment w f k) e = absurd (false≢true (rw w at e))
-
-  fragment_free : {around : ℕ} → Stores m s d around → fragment_role (role_of d.head) ≡ true → taken_at d.head.name s.fragments ≡ None
-  fragment_free (as_anonymous around w a b r) e = absurd (false≢true (rw w at e))
-  fragment_free (as_named around w f r) e = absurd (false≢true (rw w at e))
-  fragment_free (as_fragment w f k) e = f
-
-  anonymous_free : {around : ℕ} → Stores m s d around → anonymous_role (role_of d.head) ≡ true → s.anonymous ≡ None
-  anonymous_free (as_anonymous around w a b r) e = a
-  anonymous_free (as_named around w f r) e = absurd (false≢true (rw w at e))
-  anonymous_free (as_fragment w f k) e = absurd (false≢true (rw w at e))
-
   is_executable : {around : ℕ} → Stores m s d around → operation_role (role_of d.head) ≡ false → fragment_role (role_of d.head) ≡ true
   is_executable (as_anonymous around w a b r) e = absurd (true≢false (rw w at e))
   is_executable (as_named around w f r) e = absurd (true≢false (rw w at e))
@@ -175,9 +160,9 @@ module _ (m : Meaning) (s : State) (d : Accepted) where
       rw (k, e)
       (record {
         each = (storable around sound h, tt);
-        operations = λ n. let one = took_if (named_role (role_of d.head)) n d.head s.operations (operation_free h) in omega arith;
-        fragments = λ n. let one = took_if (fragment_role (role_of d.head)) n d.head s.fragments (fragment_free h) in omega arith;
-        anonymous = λ n. let one = lone_if (anonymous_role (role_of d.head)) (eqb d.head.name n) d.head.location s.anonymous (anonymous_free h) in omega arith;
+        operations = λ n. let one = took_if (named_role (role_of d.head)) n d.head s.operations (operation_free m s d h) in omega arith;
+        fragments = λ n. let one = took_if (fragment_role (role_of d.head)) n d.head s.fragments (fragment_free m s d h) in omega arith;
+        anonymous = λ n. let one = lone_if (anonymous_role (role_of d.head)) (eqb d.head.name n) d.head.location s.anonymous (anonymous_free m s d h) in omega arith;
       })
   one_roomy o sound (Becomes.passes k e never) =
       rw k
