@@ -7,6 +7,7 @@ pub mod Names
 pub mod Definitions
 pub mod Steps
 pub mod Read
+pub mod Chosen
 pub mod Joined
 pub mod GoesOn
 pub mod Wholes

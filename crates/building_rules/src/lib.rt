@@ -10,6 +10,7 @@ ghost use Rattle.building_rules.specs.Bounds.{BuildsFit, NeedsOfDocuments};
 ghost use Rattle.building_rules.specs.Needed.{ClosedIsNeeded, SomeAreValid};
 ghost use Rattle.building_rules.specs.Calls.{DocumentsAreRead, HistoriesGrow};
 ghost use Rattle.building_rules.specs.Storable.{KeptIsStorable};
+ghost use Rattle.building_rules.specs.Chosen.{KeptAreChosen};
 
 use schema::Schema;
 
@@ -65,4 +66,10 @@ pub fn histories_grow()
 /// and no name is kept twice.
 pub fn kept_definitions_can_be_stored()
     ensures { KeptIsStorable }
+{}
+
+/// Which definitions are kept, told by those that are kept before them: the operations and fragments that none of these
+/// stands against, and whose root or condition the schema knows.
+pub fn kept_definitions_are_chosen()
+    ensures { KeptAreChosen }
 {}
