@@ -1,13 +1,13 @@
 -- What is kept are the chosen definitions, and no others are chosen.
-use Rattle.std.proofs.Common.{◌≡◌, ℕ, Bool, true, false, cond, eqb, ◌≢◌, List, [], ◌∷◌, ◌++◌, Some, None, Option, sym, refl, ap, ◌∙◌, append-nil}
+use Rattle.std.proofs.Common.{◌≡◌, ℕ, Bool, true, false, cond, eqb, ◌≢◌, List, [], ◌∷◌, ◌++◌, Some, None, Option, sym, refl, ◌∙◌, append-nil}
 use Rattle.std.proofs.lemmas.Bool.{eqb-true, eqb-false, false≢true, true≢false}
 use Rattle.schema.specs.Meaning.{Meaning}
-use Rattle.building_rules.specs.Definitions.{Accepted, Role, anonymous_operation, named_operation, fragment, type_system, role_of, operation_of, Kept, Taken, taken, taken_at, State, fresh, Outcome, step, kept_from, kept_in}
+use Rattle.building_rules.specs.Definitions.{Accepted, Role, anonymous_operation, named_operation, fragment, type_system, role_of, operation_of, Kept, Taken, taken, taken_at, State, fresh, Outcome, step, kept_from}
 use Rattle.building_rules.specs.Rules.{operation_role, anonymous_role, named_role, fragment_role}
-use Rattle.building_rules.specs.Chosen.{kept_with, NoOperation, NoneNamed, ToKeep, Chosen, KeptAreChosen}
+use Rattle.building_rules.specs.Chosen.{NoOperation, NoneNamed, ToKeep, Chosen, KeptAreChosen}
 use Rattle.building_rules.proofs.Rows.{no_cons, both_nil}
 use Rattle.building_rules.proofs.Steps.{Stores, as_anonymous, as_named, as_fragment, Becomes, becomes}
-use Rattle.building_rules.proofs.Read.{names_kept, anonymous_kept, Tells, first_of, tells_step}
+use Rattle.building_rules.proofs.Read.{names_kept, anonymous_kept, Tells, first_of, first_push, tells_step}
 
 -- Names that are taken are names that are kept
 
@@ -15,13 +15,9 @@ none_both : {A : Type 0} (a b : Option A) → first_of a b ≡ None → (a ≡ N
 none_both None b e = (refl, e)
 none_both (Some a) b e = cc
 
-taken_push : (b : Bool) (at : ℕ) (a c : Option ℕ) → cond b (Some at) (first_of a c) ≡ first_of (cond b (Some at) a) c
-taken_push true at a c = refl
-taken_push false at a c = refl
-
 taken_join : (n : ℕ) (xs ys : List Taken) → taken_at n (xs ++ ys) ≡ first_of (taken_at n xs) (taken_at n ys)
 taken_join n [] ys = refl
-taken_join n (t ∷ xs) ys = rw (taken_join n xs ys) (taken_push (eqb n t.name) t.location (taken_at n xs) (taken_at n ys))
+taken_join n (t ∷ xs) ys = rw (taken_join n xs ys) (first_push (eqb n t.name) t.location (taken_at n xs) (taken_at n ys))
 
 -- a kept definition, by whether it is of the role and whether it has the name
 other_name : (n : ℕ) (k : Kept) (b c : Bool) → eqb n k.head.name ≡ c → taken_at n (cond b (taken k.head ∷ []) []) ≡ None → b ≡ true → k.head.name ≢ n

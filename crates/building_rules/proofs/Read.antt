@@ -37,13 +37,13 @@ names_join test [] ys = simp append-nil
 names_join test (k ∷ xs) ys =
     ap (λ (l : List Taken). l ++ cond (test (role_of k.head)) (taken k.head ∷ []) []) (names_join test xs ys) ∙ append_assoc (names_kept test ys) _ _
 
-anonymous_push : (b : Bool) (at : ℕ) (a c : Option ℕ) → cond b (Some at) (first_of a c) ≡ first_of (cond b (Some at) a) c
-anonymous_push true at a c = refl
-anonymous_push false at a c = refl
+pub first_push : (b : Bool) (at : ℕ) (a c : Option ℕ) → cond b (Some at) (first_of a c) ≡ first_of (cond b (Some at) a) c
+first_push true at a c = refl
+first_push false at a c = refl
 
 pub anonymous_join : (xs ys : List Kept) → anonymous_kept (xs ++ ys) ≡ first_of (anonymous_kept xs) (anonymous_kept ys)
 anonymous_join [] ys = refl
-anonymous_join (k ∷ xs) ys = rw (anonymous_join xs ys) (anonymous_push (anonymous_role (role_of k.head)) k.head.location (anonymous_kept xs) (anonymous_kept ys))
+anonymous_join (k ∷ xs) ys = rw (anonymous_join xs ys) (first_push (anonymous_role (role_of k.head)) k.head.location (anonymous_kept xs) (anonymous_kept ys))
 
 name_more : (b : Bool) (t : Taken) (ts us : List Taken) → ts ≡ us → cond b (t ∷ ts) ts ≡ cond b (t ∷ []) [] ++ us
 name_more true t ts us e = rw e refl
