@@ -6,6 +6,7 @@
 
 mod definition;
 mod fault;
+mod ranges;
 mod stored;
 mod tables;
 
