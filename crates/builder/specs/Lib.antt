@@ -6,3 +6,5 @@ pub mod Naming
 pub mod Ruling
 pub mod Storing
 pub mod Space
+pub mod Taking
+pub mod Adding
