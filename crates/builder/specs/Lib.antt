@@ -8,3 +8,4 @@ pub mod Storing
 pub mod Space
 pub mod Taking
 pub mod Adding
+pub mod Certificate
