@@ -12,3 +12,4 @@ pub mod States
 pub mod Spaces
 pub mod Ones
 pub mod Going
+pub mod Judging

@@ -9,3 +9,4 @@ pub mod Space
 pub mod Taking
 pub mod Adding
 pub mod Certificate
+pub mod Lent

@@ -1,4 +1,9 @@
 // The builder of executable documents: it adds documents, one after the other, into tables that its caller lends.
+ghost use Rattle.std.specs.Prelude.{◌≡◌, length, take, replicate, IfErr, IfOk};
+ghost use Rattle.builder.specs.Holding.{held};
+ghost use Rattle.builder.specs.Adding.{held_in, Answers, after_adding};
+ghost use Rattle.builder.specs.Lent.{SameTables, SameFurtherSlots, Untouched};
+
 use crate::fault::BuilderFault;
 use crate::filled::Filled;
 use crate::limits::INDEX_SLOTS;
@@ -51,7 +56,14 @@ impl<'s, S: Schema> ExecutableDocumentBuilder<'s, S> {
         tables: &mut Tables<'_>,
         document: &Document<'_>,
         strict: bool,
-    ) -> Result<(), BuilderFault> {
+    ) -> Result<(), BuilderFault>
+        ensures answer { Answers self.old.progress tables.old document.now.definitions.now document.now.rows.now result }
+        ensures held { held_in self.new.progress tables.new ≡ after_adding (S.Schema.meaning self.old.schema.now) (held_in self.old.progress tables.old) document.now.definitions.now document.now.rows.now strict result }
+        ensures schema { self.new.schema ≡ self.old.schema }
+        ensures further { SameFurtherSlots tables.old tables.new }
+        ensures refused { IfErr result (λ _. ((self.new ≡ self.old) × Untouched tables.old tables.new)) }
+        ensures same { SameTables tables.old tables.new }
+    {
         self.progress.judge(tables, document)?;
         self.progress = take_document(
             self.schema,
