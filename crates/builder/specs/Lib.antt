@@ -8,5 +8,7 @@ pub mod Storing
 pub mod Space
 pub mod Taking
 pub mod Adding
-pub mod Certificate
 pub mod Lent
+pub mod Beginning
+pub mod Reading
+pub mod Certificate

@@ -1,7 +1,8 @@
 // The builder of executable documents: it adds documents, one after the other, into tables that its caller lends.
-ghost use Rattle.std.specs.Prelude.{◌≡◌, length, take, replicate, IfErr, IfOk};
-ghost use Rattle.builder.specs.Holding.{held};
+ghost use Rattle.std.specs.Prelude.{◌≡◌, take, IfErr, IfOk, nat_lt};
 ghost use Rattle.builder.specs.Adding.{held_in, Answers, after_adding};
+ghost use Rattle.builder.specs.Beginning.{Begins};
+ghost use Rattle.builder.specs.Reading.{keys_between};
 ghost use Rattle.builder.specs.Lent.{SameTables, SameFurtherSlots, Untouched};
 
 use crate::fault::BuilderFault;
@@ -28,7 +29,11 @@ impl<'s, S: Schema> ExecutableDocumentBuilder<'s, S> {
     pub fn new(
         schema: &'s S,
         tables: &mut Tables<'_>,
-    ) -> Result<ExecutableDocumentBuilder<'s, S>, BuilderFault> {
+    ) -> Result<ExecutableDocumentBuilder<'s, S>, BuilderFault>
+        ensures begins { Begins tables.old tables.new result }
+        ensures schema { IfOk result (λ b. b.schema ≡ schema.entry) }
+        ensures same { SameTables tables.old tables.new }
+    {
         if tables.operation_slots.len() < INDEX_SLOTS || tables.fragment_slots.len() < INDEX_SLOTS {
             return Err(BuilderFault::IndexUnfit);
         }
@@ -82,18 +87,34 @@ impl<'s, S: Schema> ExecutableDocumentBuilder<'s, S> {
         Ok(())
     }
 
+    /// Whether errors are listed.
+    pub fn has_errors(&self) -> bool
+        ensures listed { result ≡ nat_lt 0 self.now.progress.filled.errors }
+    {
+        self.progress.filled.errors > 0
+    }
+
     /// What is stored in the tables.
-    pub fn stored<'t>(&self, tables: &'t Tables<'_>) -> StoredDocument<'t> {
+    pub fn stored<'t>(&self, tables: &'t Tables<'_>) -> StoredDocument<'t>
+        ensures anonymous { result.anonymous ≡ self.now.progress.anonymous }
+        ensures operations { result.operations.now ≡ take self.now.progress.operations tables.now.operations.now }
+        ensures fragments { result.fragments.now ≡ take self.now.progress.fragments tables.now.fragments.now }
+        ensures rows { result.rows.now ≡ take self.now.progress.filled.rows tables.now.rows.now }
+    {
         self.progress.stored(tables)
     }
 
     /// The errors that are listed in the tables.
-    pub fn errors<'t>(&self, tables: &'t Tables<'_>) -> &'t [BuildError] {
+    pub fn errors<'t>(&self, tables: &'t Tables<'_>) -> &'t [BuildError]
+        ensures errors { result.now ≡ take self.now.progress.filled.errors tables.now.errors.now }
+    {
         in_use(tables.errors, self.progress.filled.errors)
     }
 
     /// The response keys of a path, the outermost first.
-    pub fn response_keys<'t>(&self, tables: &'t Tables<'_>, path: SelectionPath) -> &'t [u32] {
+    pub fn response_keys<'t>(&self, tables: &'t Tables<'_>, path: SelectionPath) -> &'t [u32]
+        ensures keys { result.now ≡ keys_between (take self.now.progress.filled.path_keys tables.now.path_keys.now) path.first_key path.end_key }
+    {
         let keys = in_use(tables.path_keys, self.progress.filled.path_keys);
         keys.get(path.first_key as usize..path.end_key as usize).unwrap_or(&[])
     }
