@@ -1,9 +1,8 @@
 -- Ranges that follow one another: of what is left of them, only the first can hold a row.
-use Rattle.std.proofs.Common.{◌≡◌, ℕ, zero, suc, ◌+◌, ◌<◌, ◌≤◌, Bool, true, false, cond, leb, List, [], ◌∷◌, ◌++◌, length, take, count_by, add-zero, None, Option, sym, refl, ap, ◌∙◌, arith}
-use Rattle.std.proofs.lemmas.Bool.{leb-true, leb-false, le-leb, ltb-false, or_parts}
+use Rattle.std.proofs.Common.{◌≡◌, ℕ, zero, suc, ◌+◌, ◌<◌, ◌≤◌, Bool, true, false, cond, leb, List, [], ◌∷◌, ◌++◌, length, take, count_by, None, Option, sym, refl, ap, ◌∙◌, arith}
+use Rattle.std.proofs.lemmas.Bool.{leb-true, leb-false, ltb-false, or_parts}
 use Rattle.std.proofs.lemmas.Bool.Decides.{nat_tests}
-use Rattle.std.specs.List.{sum_by}
-use Rattle.std.proofs.lemmas.List.Sums.{sum_by-append}
+use Rattle.std.proofs.lemmas.List.Sums.{sum_by-cons, sum_by-append}
 use Rattle.stored_tables.specs.declared.definition.StoredDefinition.{StoredDefinition}
 use Rattle.stored_tables.specs.Verdict.{first_place, misplaced, definition_at, end_before, broken_definition, holds, alone, all_stored}
 use Rattle.stored_tables.proofs.Places.{no_place}
@@ -21,20 +20,13 @@ pub held_before : (row : ℕ) (d : StoredDefinition) → d.row.end ≤ row → h
 held_before row d high = grind (arith, nat_tests)
 
 -- a row before them is in none
-none_hold : (rows row s : ℕ) (ds : List StoredDefinition) → row < s → InOrder rows s ds → count_by (holds row) ds ≡ 0
+pub none_hold : (rows row s : ℕ) (ds : List StoredDefinition) → row < s → InOrder rows s ds → count_by (holds row) ds ≡ 0
 none_hold rows row s [] low order = refl
 none_hold rows row s (d ∷ ds) low order =
     let off = held_later row d (omega (arith, order.0)) in
     rw off (none_hold rows row d.row.end ds (omega (arith, order.0, order.1.ordered)) order.2)
 
 module _ (rows row : ℕ) where
-  -- what is left, as it is found at the first of them
-  pub left_over : (d : StoredDefinition) (ds : List StoredDefinition) → d.row.end ≤ row → from_row row (d ∷ ds) ≡ from_row row ds
-  left_over d ds past = rw (le-leb d.row.end row past) refl
-
-  pub left_whole : (d : StoredDefinition) (ds : List StoredDefinition) → row < d.row.end → from_row row (d ∷ ds) ≡ d ∷ ds
-  left_whole d ds before = grind (arith, nat_tests)
-
   order_step : (b : Bool) (s : ℕ) (d : StoredDefinition) (ds rest : List StoredDefinition) → InOrder rows s (d ∷ ds) → InOrder rows d.row.end rest → InOrder rows s (cond b rest (d ∷ ds))
   order_step true s d ds rest order later = in_order_from rows d.row.end s rest (omega (arith, order.0, order.1.ordered)) later
   order_step false s d ds rest order later = order
@@ -62,9 +54,9 @@ module _ (rows row : ℕ) where
   first_step true s d ds rest is order same = same
   first_step false s d ds rest is order same =
       let ahead = leb-false d.row.end row (sym is) in
-      let off : sum_by (λ x. cond (holds row x) 1 0) ds ≡ 0 = none_hold rows row d.row.end ds (omega arith) order.2 in
-      let parts = sum_by-append (λ (x : StoredDefinition). cond (holds row x) 1 0) (d ∷ []) ds in
-      sym (parts ∙ ap (λ n. sum_by (λ x. cond (holds row x) 1 0) (d ∷ []) + n) off ∙ add-zero _)
+      let off = none_hold rows row d.row.end ds (omega arith) order.2 in
+      let parts = sum_by-cons (λ (x : StoredDefinition). cond (holds row x) 1 0) d ds in
+      omega (arith, off, parts)
 
   -- this row is in none but the first of what is left
   pub left_first : (s : ℕ) (ds : List StoredDefinition) → InOrder rows s ds → count_by (holds row) (take 1 (from_row row ds)) ≡ count_by (holds row) (from_row row ds)
@@ -72,7 +64,7 @@ module _ (rows row : ℕ) where
   left_first s (d ∷ ds) order = first_step (leb d.row.end row) s d ds (from_row row ds) refl order (left_first d.row.end ds order.2)
 
 -- where the definition before the one at a place ends, if the first may begin at s
-abbrev end_from : ℕ → List StoredDefinition → ℕ → ℕ
+abbrev pub end_from : ℕ → List StoredDefinition → ℕ → ℕ
 end_from s ds zero = s
 end_from s ds (suc i) = (definition_at ds i).row.end
 
@@ -87,7 +79,7 @@ in_place start rows d is =
     let b = or_parts _ _ a.1 in
     record { from = ltb-false _ _ a.0; placed = record { ordered = ltb-false _ _ b.0; within = ltb-false _ _ b.1 } }
 
-later_end : (s : ℕ) (d : StoredDefinition) (ds : List StoredDefinition) (i : ℕ) → end_from s (d ∷ ds) (suc i) ≡ end_from d.row.end ds i
+pub later_end : (s : ℕ) (d : StoredDefinition) (ds : List StoredDefinition) (i : ℕ) → end_from s (d ∷ ds) (suc i) ≡ end_from d.row.end ds i
 later_end s d ds zero = refl
 later_end s d ds (suc i) = refl
 
@@ -100,7 +92,7 @@ chained rows s (d ∷ ds) each =
       chained rows d.row.end ds (λ i low. ap (λ e. misplaced e rows (definition_at ds i)) (sym (later_end s d ds i)) ∙ each (suc i) (omega arith)),
     )
 
-before_is : (ds : List StoredDefinition) (i : ℕ) → end_before ds i ≡ end_from 0 ds i
+pub before_is : (ds : List StoredDefinition) (i : ℕ) → end_before ds i ≡ end_from 0 ds i
 before_is ds zero = refl
 before_is ds (suc i) = refl
 

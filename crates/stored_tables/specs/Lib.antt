@@ -2,3 +2,4 @@
 pub mod Layout
 pub mod Verdict
 pub mod Ranges
+pub mod Statement
