@@ -12,3 +12,5 @@ pub mod States
 pub mod Spaces
 pub mod Ones
 pub mod Going
+pub mod Sounds
+pub mod Readings
