@@ -14,3 +14,5 @@ pub mod Ones
 pub mod Going
 pub mod Sounds
 pub mod Readings
+pub mod Growing
+pub mod Standing

@@ -1,13 +1,11 @@
 -- What is read from the tables of a builder that came out of a list of calls: what is kept of them, and what is listed.
-use Rattle.std.proofs.Common.{◌≡◌, ℕ, ◌+◌, ◌≤◌, Bool, List, [], ◌∷◌, ◌++◌, length, take, drop, Some, None, Option, sym, refl, ap, ◌∙◌, subst, add-zero, arith}
+use Rattle.std.proofs.Common.{◌≡◌, ℕ, ◌+◌, ◌≤◌, Bool, List, [], ◌∷◌, length, take, drop, None, Option, sym, ap, ◌∙◌, arith}
 use Rattle.std.proofs.lemmas.List.{take_at}
 use Rattle.schema.specs.Meaning.{Meaning}
-use Rattle.selection_rules.specs.declared.stored.StoredRow.{StoredRow}
-use Rattle.selection_rules.specs.declared.error.BuildError.{BuildError}
 use Rattle.selection_rules.specs.Errors.{Error, error_rows, keys_in}
 use Rattle.building_rules.specs.Definitions.{Accepted, Kept, State, fresh, kept_from, errors_from, state_after, kept_in, errors_in}
 use Rattle.building_rules.specs.Bounds.{rows_kept}
-use Rattle.building_rules.specs.Calls.{Call, accepted, kept, listed_in}
+use Rattle.building_rules.specs.Calls.{Call, accepted}
 use Rattle.stored_tables.specs.declared.definition.StoredDefinition.{StoredDefinition}
 use Rattle.stored_tables.specs.declared.tables.Tables.{Tables}
 use Rattle.stored_tables.specs.Layout.{rows_of, operations_of, fragments_of, anonymous_of}
@@ -37,7 +35,7 @@ entered_put t (d ∷ ds) fits =
     ∙ put-put t.entries t.count (d ∷ []) ds (t.count + 1) (omega arith) low
 
 -- a table that was empty holds the definitions that were entered
-pub entered_read : (start t : Table) (ds : List StoredDefinition) → start.count ≡ 0 → t ≡ all_entered start ds → t.count ≤ length t.entries → take t.count t.entries ≡ ds
+entered_read : (start t : Table) (ds : List StoredDefinition) → start.count ≡ 0 → t ≡ all_entered start ds → t.count ≤ length t.entries → take t.count t.entries ≡ ds
 entered_read start t ds empty is fits =
     let count = ap (λ (x : Table). x.count) is in
     let long = ap (λ (x : Table). length x.entries) is in
@@ -54,7 +52,7 @@ fresh_state h is =
     same_state (ap location_of is.anonymous) is.multiple (ap (taken_by h.operations.entries) is.operations) (ap (taken_by h.fragments.entries) is.fragments)
 
 -- what is held once definitions are kept and errors listed, from the front on
-abbrev filled_at : Held → Filled → List Kept → List Error → Bool → Held
+abbrev pub filled_at : Held → Filled → List Kept → List Error → Bool → Held
 filled_at h f ks es multiple =
     record {
       operations = all_entered h.operations (operations_of f.rows ks);
@@ -66,7 +64,7 @@ filled_at h f ks es multiple =
     }
 
 module _ (m : Meaning) (start h : Held) (ds : List Accepted) (is : IsFresh start) (holds : h ≡ taken_in m start ds) where
-  from_front : h ≡ filled_at start (filled_to 0 0 0) (kept_in m ds) (errors_in m ds) (state_after m fresh ds).multiple
+  pub from_front : h ≡ filled_at start (filled_to 0 0 0) (kept_in m ds) (errors_in m ds) (state_after m fresh ds).multiple
   from_front =
       holds
       ∙ ap (λ (s : State). filled_with start (kept_from m s ds) (errors_from m s ds) (state_after m s ds).multiple) (fresh_state start is)
