@@ -56,7 +56,7 @@ space_one h d ds space =
     }
 
 -- no definition changes nothing
-nothing_in : (m : Meaning) (h : Held) → taken_in m h [] ≡ h
+pub nothing_in : (m : Meaning) (h : Held) → taken_in m h [] ≡ h
 nothing_in m h =
     same_held refl refl
     (same_output (put_nil h.output.rows h.output.filled.rows) (put_nil h.output.errors h.output.filled.errors) (put_nil h.output.path_keys h.output.filled.path_keys)

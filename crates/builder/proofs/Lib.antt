@@ -13,3 +13,7 @@ pub mod Spaces
 pub mod Ones
 pub mod Going
 pub mod Judging
+pub mod Sounds
+pub mod Readings
+pub mod Growing
+pub mod Standing

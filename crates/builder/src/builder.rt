@@ -1,5 +1,5 @@
 // The builder of executable documents: it adds documents, one after the other, into tables that its caller lends.
-ghost use Rattle.std.specs.Prelude.{◌≡◌, take, IfErr, IfOk, nat_lt};
+ghost use Rattle.std.specs.Prelude.{◌≡◌, ◌≤◌, ◌++◌, length, take, drop, replicate, IfErr, IfOk, nat_lt};
 ghost use Rattle.builder.specs.Adding.{held_in, Answers, after_adding};
 ghost use Rattle.builder.specs.Beginning.{Begins};
 ghost use Rattle.builder.specs.Reading.{keys_between};
@@ -24,6 +24,14 @@ pub struct ExecutableDocumentBuilder<'s, S> {
     progress: Progress,
 }
 
+// Empties an index: the first 512 slots.
+fn empty_index(slots: &mut [u32])
+    requires { 512 ≤ length slots.old }
+    ensures { slots.new ≡ replicate 512 0 ++ drop 512 slots.old }
+{
+    empty::<StoredDefinition>(&mut slots[..INDEX_SLOTS]);
+}
+
 impl<'s, S: Schema> ExecutableDocumentBuilder<'s, S> {
     /// A builder that has stored nothing. It empties both indexes: of each the first 512 slots.
     pub fn new(
@@ -37,8 +45,8 @@ impl<'s, S: Schema> ExecutableDocumentBuilder<'s, S> {
         if tables.operation_slots.len() < INDEX_SLOTS || tables.fragment_slots.len() < INDEX_SLOTS {
             return Err(BuilderFault::IndexUnfit);
         }
-        empty::<StoredDefinition>(&mut tables.operation_slots[..INDEX_SLOTS]);
-        empty::<StoredDefinition>(&mut tables.fragment_slots[..INDEX_SLOTS]);
+        empty_index(tables.operation_slots);
+        empty_index(tables.fragment_slots);
         Ok(ExecutableDocumentBuilder {
             schema,
             progress: Progress {

@@ -122,7 +122,7 @@ kept_named_join : (test : Role → Bool) (n : ℕ) (xs ys : List Kept) → kept_
 kept_named_join test n [] ys = omega arith
 kept_named_join test n (k ∷ xs) ys = let rest = kept_named_join test n xs ys in omega arith
 
-all_join : {A : Type 0} (P : A → Type 0) (xs ys : List A) → AllByRecursion P xs → AllByRecursion P ys → AllByRecursion P (xs ++ ys)
+pub all_join : {A : Type 0} (P : A → Type 0) (xs ys : List A) → AllByRecursion P xs → AllByRecursion P ys → AllByRecursion P (xs ++ ys)
 all_join P [] ys p q = q
 all_join P (x ∷ xs) ys p q = (p.0, all_join P xs ys p.1 q)
 
