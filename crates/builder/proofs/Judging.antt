@@ -1,5 +1,5 @@
 -- The first fault of sizes and rows, part by part; and what a document that can be added finds.
-use Rattle.std.proofs.Common.{◌≡◌, ℕ, ◌+◌, ◌≤◌, min, Bool, true, false, cond, not, ◌||◌, ltb, List, length, take, Some, None, Option, option_map, sym, refl, ap, ◌∙◌, subst, arith}
+use Rattle.std.proofs.Common.{◌≡◌, ℕ, ◌+◌, ◌≤◌, min, Bool, true, false, cond, List, length, Some, None, Option, option_map, sym, refl, ap, ◌∙◌, subst, arith}
 use Rattle.std.proofs.lemmas.List.{length-take-le}
 use Rattle.std.proofs.lemmas.Bool.{ltb-false, or_parts}
 use Rattle.refusal.specs.Firsts.{or_else}
@@ -9,7 +9,6 @@ use Rattle.document.specs.declared.fault.DocumentFault.{DocumentFault}
 use Rattle.document.specs.declared.handed.needs.Needs.{Needs}
 use Rattle.document.specs.Document.{Definition, IsDocument}
 use Rattle.document.specs.Needs.{needs_of}
-use Rattle.building_rules.specs.Definitions.{accepted_from}
 use Rattle.building_rules.specs.Calls.{document_in}
 use Rattle.building_rules.proofs.Histories.{documents_are_read}
 use Rattle.building_rules.proofs.Fits.{needs_of_documents}
@@ -22,7 +21,6 @@ use Rattle.builder.specs.declared.progress.Progress.{Progress}
 use Rattle.builder.specs.declared.fault.BuilderFault.{BuilderFault}
 use Rattle.builder.specs.declared.fault.BuilderFault.TheVariants.{Document, TableTooShort, Stored}
 use Rattle.builder.specs.Space.{Space}
-use Rattle.builder.specs.Storing.{Indexed}
 use Rattle.builder.specs.Taking.{AllReady}
 use Rattle.builder.specs.Adding.{held_in, too_short, IsIndexed, passes, crowded}
 
@@ -43,6 +41,11 @@ by_stored sizes short stored layout f a b c = rw (a, b, c) refl
 pub by_layout : (sizes : Option DocumentFault) (short : Bool) (stored : Option StoredFault) (layout r : Option DocumentFault) → sizes ≡ None → short ≡ false → stored ≡ None → or_else sizes layout ≡ r
     → parts sizes short stored layout ≡ option_map Document r
 by_layout sizes short stored layout r a b c d = rw (a, b, c) (ap (option_map Document) (ap (λ (x : Option DocumentFault). or_else x layout) (sym a) ∙ d))
+
+-- where the tables are long enough and what is stored is in order, only what is handed over counts
+pub handed_only : (sizes : Option DocumentFault) (short : Bool) (stored : Option StoredFault) (layout : Option DocumentFault) → short ≡ false → stored ≡ None
+    → parts sizes short stored layout ≡ or_else (option_map Document sizes) (option_map Document layout)
+handed_only sizes short stored layout a b = rw (a, b) refl
 
 -- a fault of equal parts is the same
 pub same_stored : {a a' : Option StoredDefinition} {x x' y y' : List StoredDefinition} {z z' : List StoredRow} (r : Option StoredFault)

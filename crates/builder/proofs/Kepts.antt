@@ -1,11 +1,9 @@
 -- Tables that are filled in two parts, and what the rules read of tables that are filled.
-use Rattle.std.proofs.Common.{◌≡◌, ℕ, zero, suc, ◌+◌, ◌<◌, ◌≤◌, Bool, true, false, cond, List, [], ◌∷◌, ◌++◌, length, get_or, set, Some, None, Option, sym, refl, ap, ◌∙◌, append_assoc, add-zero, add-one, arith, length-append, length-set}
+use Rattle.std.proofs.Common.{◌≡◌, ℕ, zero, suc, ◌+◌, ◌<◌, ◌≤◌, Bool, true, false, cond, List, [], ◌∷◌, ◌++◌, length, get_or, set, Some, Option, sym, refl, ap, ◌∙◌, append_assoc, add-one, arith, length-append, length-set}
 use Rattle.std.proofs.lemmas.List.{get_or-set_same, get_or-set_other}
 use Rattle.layout.specs.Forest.{size, flatten}
 use Rattle.layout.proofs.Tables.{length-flatten}
-use Rattle.document.specs.Rows.{Head}
 use Rattle.selection_rules.specs.declared.stored.StoredRow.{StoredRow}
-use Rattle.selection_rules.specs.declared.error.BuildError.{BuildError}
 use Rattle.selection_rules.specs.Stored.{stored_row}
 use Rattle.selection_rules.specs.Errors.{Error, keys_in, error_rows}
 use Rattle.building_rules.specs.Definitions.{Kept, Role, role_of, Taken, taken, State}
@@ -16,7 +14,7 @@ use Rattle.stored_tables.specs.declared.definition.StoredDefinition.{StoredDefin
 use Rattle.stored_tables.specs.Layout.{laid_out, rows_of, those_of, operations_of, fragments_of, latest, anonymous_of}
 use Rattle.builder.specs.Filling.{put, Output}
 use Rattle.stored_tables.specs.Verdict.{no_stored_definition}
-use Rattle.builder.specs.Holding.{Table, table, entered, all_entered, Held, taken_by, location_of, state_of, filled_with}
+use Rattle.builder.specs.Holding.{Table, entered, all_entered, Held, taken_by, location_of, state_of, filled_with}
 use Rattle.builder.proofs.Puts.{put-put}
 use Rattle.builder.proofs.Outputs.{same_output, keys_joined, rows_joined, length_rows}
 

@@ -17,3 +17,5 @@ pub mod Sounds
 pub mod Readings
 pub mod Growing
 pub mod Standing
+pub mod Cuts
+pub mod Never

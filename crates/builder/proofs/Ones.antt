@@ -1,20 +1,18 @@
 -- One definition that is taken in: what is listed of it, and where it is kept.
-use Rattle.std.proofs.Common.{◌≡◌, ℕ, ◌+◌, ◌<◌, ◌≤◌, Bool, true, false, cond, List, [], ◌∷◌, ◌++◌, length, Some, None, Option, sym, refl, ap, ◌∙◌, subst, add-zero, arith, count_by}
-use Rattle.std.proofs.lemmas.List.{append-nil, take_all}
-use Rattle.layout.specs.Forest.{Forest, none, size, flatten}
-use Rattle.document.specs.Rows.{Selection, Head}
+use Rattle.std.proofs.Common.{◌≡◌, ℕ, ◌+◌, ◌≤◌, Bool, true, false, cond, List, [], ◌∷◌, ◌++◌, length, Some, None, Option, sym, refl, ap, ◌∙◌, arith}
+use Rattle.std.proofs.lemmas.List.{append-nil}
+use Rattle.layout.specs.Forest.{none, size, flatten}
 use Rattle.schema.specs.Meaning.{Meaning}
 use Rattle.selection_rules.specs.declared.error.BuildError.{BuildError}
-use Rattle.selection_rules.specs.declared.stored.StoredRow.{StoredRow}
 use Rattle.selection_rules.specs.Stored.{stored_row}
 use Rattle.selection_rules.specs.Errors.{Error, keys_in, error_rows}
 use Rattle.selection_rules.specs.Sets.{build, errors}
 use Rattle.building_rules.specs.Definitions.{Accepted, Kept, Role, anonymous_operation, named_operation, fragment, type_system, role_of, start_path, State, step}
 use Rattle.building_rules.specs.Rules.{anonymous_role, named_role, fragment_role}
 use Rattle.stored_tables.specs.declared.definition.StoredDefinition.{StoredDefinition}
-use Rattle.stored_tables.specs.Layout.{stored_definition, laid_out, latest}
+use Rattle.stored_tables.specs.Layout.{stored_definition, latest}
 use Rattle.builder.specs.Filling.{put, Output, output, filled_to, with_set}
-use Rattle.builder.specs.Holding.{Table, entered, all_entered, Held, state_of, filled_with, one_in}
+use Rattle.builder.specs.Holding.{all_entered, Held, state_of, filled_with, one_in}
 use Rattle.builder.specs.Ruling.{own_errors, set_type_for, set_type_as, now_multiple}
 use Rattle.builder.specs.Storing.{store_as}
 use Rattle.builder.proofs.Puts.{put_nil}

@@ -1,5 +1,5 @@
 -- Where there is space for what definitions can need, there is room for what they come to, and space for those after them.
-use Rattle.std.proofs.Common.{◌≡◌, ℕ, ◌+◌, ◌≤◌, Bool, true, false, cond, not, ◌&&◌, eqb, List, [], ◌∷◌, ◌++◌, length, count_by, sym, refl, ap, ◌∙◌, subst, arith, length-append}
+use Rattle.std.proofs.Common.{◌≡◌, ℕ, ◌+◌, ◌≤◌, Bool, true, false, cond, not, ◌&&◌, eqb, List, [], ◌∷◌, length, count_by, ap, arith, length-append}
 use Rattle.std.proofs.lemmas.List.{append-nil}
 use Rattle.std.proofs.lemmas.List.Sums.{sum_by-cons}
 use Rattle.layout.specs.Forest.{size}
@@ -9,15 +9,14 @@ use Rattle.selection_rules.specs.Errors.{Error, keys_in, error_rows}
 use Rattle.building_rules.specs.Definitions.{Accepted, Kept, Role, anonymous_operation, fragment, type_system, role_of, step, errors_from, kept_from}
 use Rattle.building_rules.specs.Definitions as define
 use Rattle.building_rules.specs.Rules.{named_role, fragment_role}
-use Rattle.building_rules.specs.Bounds.{needs_for, rows_kept, Fits}
+use Rattle.building_rules.specs.Bounds.{needs_for, rows_kept}
 use Rattle.building_rules.proofs.Fits.{builds_fit}
 use Rattle.stored_tables.specs.Layout.{laid_out, rows_of, those_of, operations_of, fragments_of}
-use Rattle.builder.specs.Holding.{Held, state_of, filled_with, one_in, taken_in}
+use Rattle.builder.specs.Holding.{Held, state_of, one_in}
 use Rattle.builder.specs.Space.{Space}
 use Rattle.builder.proofs.Puts.{length-put}
 use Rattle.builder.proofs.Outputs.{length_rows}
 use Rattle.builder.proofs.Kepts.{Fit, Room, many_rows, entered_count, entered_long}
-use Rattle.builder.proofs.States.{one_taken}
 
 -- no more definitions stand in a table than there are of its kind
 as_many : (test : Role → Bool) (p : Head → Bool) → ((h : Head) → cond (test (role_of h)) 1 0 ≤ cond (p h) 1 0) → (n : ℕ) (ks : List Kept) → length (those_of test n ks) ≤ count_by (λ k. p k.head) ks

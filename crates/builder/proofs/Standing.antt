@@ -32,7 +32,7 @@ use Rattle.builder.specs.Holding.{Held, taken_in}
 use Rattle.builder.specs.Storing.{Indexed}
 use Rattle.builder.specs.Space.{Space}
 use Rattle.builder.specs.Adding.{held_in, too_short, stored_fault_in, IsIndexed}
-use Rattle.builder.specs.Certificate.{IsFresh, Within, Stands, EachInOneRange}
+use Rattle.builder.specs.Certificate.{IsFresh, Within, Stands, EachInOneRange, called}
 use Rattle.builder.proofs.Going.{nothing_in}
 use Rattle.builder.proofs.Sounds.{sound_document}
 use Rattle.builder.proofs.Readings.{counted, reads}
@@ -65,10 +65,6 @@ in_one_range anonymous operations fragments rows none row low =
 -- so long a front is only there if the list is as long
 front_long : {X : Type 0} (n : ℕ) (xs : List X) → length (take n xs) ≡ n → n ≤ length xs
 front_long n xs long = let own = length-take n xs in omega arith
-
--- a call that hands in two tables
-abbrev pub called : List DefinitionRow → List SelectionRow → Bool → Bool → Call
-called definitions rows strict refused = record { definitions = definitions; rows = rows; strict = strict; refused = refused }
 
 module _ {S : Type 0} (meaning : S → Meaning) (m : Meaning) where
   module _ (calls : List Call) (b : ExecutableDocumentBuilder S) (t : Tables) (w : Stands meaning m calls b t) where

@@ -1,13 +1,12 @@
 -- The state of the rules, read off what is kept; and definitions that are taken in, in two parts.
-use Rattle.std.proofs.Common.{◌≡◌, ℕ, Bool, true, false, cond, List, [], ◌∷◌, ◌++◌, length, Some, None, Option, sym, refl, ap, ◌∙◌, subst, arith}
+use Rattle.std.proofs.Common.{◌≡◌, ℕ, Bool, true, false, cond, List, [], ◌∷◌, ◌++◌, Some, None, Option, sym, refl, ap, ◌∙◌}
 use Rattle.std.proofs.lemmas.List.{append-nil}
 use Rattle.document.specs.Rows.{Head}
 use Rattle.schema.specs.Meaning.{Meaning}
-use Rattle.selection_rules.specs.Errors.{Error, keys_in}
+use Rattle.selection_rules.specs.Errors.{Error}
 use Rattle.selection_rules.specs.Sets.{build}
-use Rattle.building_rules.specs.Definitions.{Accepted, Kept, Role, anonymous_operation, named_operation, fragment, type_system, role_of, operation_of, Taken, taken, taken_at, State, Outcome, with_anonymous, with_operation, with_fragment, with_multiple, rooted, add_anonymous, add_named, add_fragment, step_of, step, errors_from, kept_from, state_after}
+use Rattle.building_rules.specs.Definitions.{Accepted, Kept, Role, anonymous_operation, named_operation, fragment, type_system, role_of, operation_of, Taken, taken, taken_at, State, Outcome, with_anonymous, with_operation, rooted, add_anonymous, add_named, add_fragment, step_of, step, errors_from, kept_from, state_after}
 use Rattle.building_rules.specs.Rules.{anonymous_role, named_role, fragment_role}
-use Rattle.building_rules.specs.Bounds.{rows_kept}
 use Rattle.building_rules.proofs.GoesOn.{runs_go_on}
 use Rattle.builder.specs.Holding.{Held, state_of, filled_with, one_in, taken_in}
 use Rattle.builder.proofs.Kepts.{Fit, filled_two, names_after, lone_after, with_kept, Room, same_state, filled_state}

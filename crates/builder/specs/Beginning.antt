@@ -1,5 +1,5 @@
 -- Making a builder: it has stored nothing, and both indexes are empty.
-use Rattle.std.specs.Prelude.{◌≡◌, Bool, true, false, ◌||◌, ◌++◌, List, length, drop, replicate, None, Ok, Err, Result, nat_lt}
+use Rattle.std.specs.Prelude.{◌≡◌, Bool, true, false, ◌||◌, ◌++◌, length, drop, replicate, None, Ok, Err, Result, nat_lt}
 use Rattle.stored_tables.specs.declared.tables.Tables.{Tables}
 use Rattle.builder.specs.declared.progress.Progress.{Progress}
 use Rattle.builder.specs.declared.builder.ExecutableDocumentBuilder.{ExecutableDocumentBuilder}

@@ -1,17 +1,23 @@
 -- The certificate that a builder and its tables came out of a list of calls; and what it says of them.
-use Rattle.std.specs.Prelude.{◌≡◌, ℕ, ◌<◌, ◌≤◌, false, List, length, take, count_by, None, Option}
+use Rattle.std.specs.Prelude.{◌≡◌, ℕ, ◌<◌, ◌≤◌, Bool, false, List, ◌∷◌, ◌++◌, length, take, count_by, None, Ok, Err, Option, Result}
 use Rattle.std.specs.List.{AllByRecursion}
+use Rattle.document.specs.declared.rows.DefinitionRow.{DefinitionRow}
+use Rattle.document.specs.declared.rows.SelectionRow.{SelectionRow}
 use Rattle.schema.specs.Meaning.{Meaning}
 use Rattle.selection_rules.specs.declared.stored.StoredRow.{StoredRow}
-use Rattle.selection_rules.specs.Errors.{error_rows, keys_in}
+use Rattle.selection_rules.specs.declared.error.SelectionPath.{SelectionPath}
+use Rattle.selection_rules.specs.Errors.{Path, path_at, Error, keys_of, error_rows, keys_in}
 use Rattle.building_rules.specs.Calls.{Call, accepted, kept, listed_in}
 use Rattle.building_rules.specs.Storable.{Sound}
 use Rattle.stored_tables.specs.declared.definition.StoredDefinition.{StoredDefinition}
+use Rattle.stored_tables.specs.declared.stored.StoredDocument.{StoredDocument}
 use Rattle.stored_tables.specs.declared.tables.Tables.{Tables}
 use Rattle.stored_tables.specs.Layout.{rows_of, operations_of, fragments_of, anonymous_of}
 use Rattle.stored_tables.specs.Verdict.{holds, all_stored}
 use Rattle.builder.specs.declared.progress.Progress.{Progress}
 use Rattle.builder.specs.declared.builder.ExecutableDocumentBuilder.{ExecutableDocumentBuilder}
+use Rattle.builder.specs.declared.fault.BuilderFault.{BuilderFault}
+use Rattle.builder.specs.declared.fault.BuilderFault.TheVariants.{Document, TableTooShort, Stored, IndexUnfit, NoRoom}
 use Rattle.builder.specs.Filling.{filled_to}
 use Rattle.builder.specs.Holding.{Held, taken_in}
 use Rattle.builder.specs.Storing.{Indexed}
@@ -63,3 +69,30 @@ pub record Reads (m : Meaning) (calls : List Call) (p : Progress) (t : Tables) :
 abbrev pub EachInOneRange : Option StoredDefinition → List StoredDefinition → List StoredDefinition → List StoredRow → Type 0
 EachInOneRange anonymous operations fragments rows =
     (row : ℕ) → row < length rows → count_by (holds row) (all_stored anonymous operations fragments) ≡ 1
+
+-- what is read of a builder after these calls is what is kept of them
+pub record IsKept (m : Meaning) (calls : List Call) (s : StoredDocument) : Type 0 where
+  pub anonymous : s.anonymous ≡ anonymous_of None 0 (kept m calls)
+  pub operations : s.operations.now ≡ operations_of 0 (kept m calls)
+  pub fragments : s.fragments.now ≡ fragments_of 0 (kept m calls)
+  pub rows : s.rows.now ≡ rows_of 0 (kept m calls)
+  pub ranges : EachInOneRange s.anonymous s.operations.now s.fragments.now s.rows.now
+
+-- the call that hands in these tables
+abbrev pub called : List DefinitionRow → List SelectionRow → Bool → Bool → Call
+called definitions rows strict refused = record { definitions = definitions; rows = rows; strict = strict; refused = refused }
+
+-- tables and indexes that are a builder's own are never at fault
+abbrev pub NeverStale : Result Unit BuilderFault → Type 0
+NeverStale (Ok x) = Unit {0}
+NeverStale (Err (Document f)) = Unit {0}
+NeverStale (Err TableTooShort) = ⊥
+NeverStale (Err (Stored f)) = ⊥
+NeverStale (Err IndexUnfit) = ⊥
+NeverStale (Err NoRoom) = Unit {0}
+
+-- the keys of an error's path are those that are read for it
+abbrev pub ReadsPath : Meaning → List Call → SelectionPath → List ℕ → Type 0
+ReadsPath m calls path keys =
+    (before after : List Error) (e : Error) (p : Path) → listed_in m calls ≡ before ++ e ∷ after → keys_of e ≡ p.keys
+    → path ≡ path_at (length (keys_in before)) p → keys ≡ p.keys

@@ -1,8 +1,16 @@
 // The builder of executable documents: it adds documents, one after the other, into tables that its caller lends.
-ghost use Rattle.std.specs.Prelude.{◌≡◌, ◌≤◌, ◌++◌, length, take, drop, replicate, IfErr, IfOk, nat_lt};
+ghost use Rattle.std.specs.Prelude.{◌≡◌, ◌≤◌, false, List, [], ◌∷◌, ◌++◌, length, take, drop, replicate, IfErr, IfOk, ◌↔◌, nat_lt};
+ghost use Rattle.std.specs.Result.{is_err};
+ghost use Rattle.ordered_index.specs.Keys.{same_name, name_hash};
+ghost use Rattle.ordered_index.specs.Sound.{Sound};
+ghost use Rattle.schema.specs.Meaning.{Meaning, Closed};
+ghost use Rattle.selection_rules.specs.Errors.{error_rows};
+ghost use Rattle.building_rules.specs.Calls.{Call, accepted, listed_in};
+ghost use Rattle.building_rules.specs.Rules.{Valid};
 ghost use Rattle.builder.specs.Adding.{held_in, Answers, after_adding};
 ghost use Rattle.builder.specs.Beginning.{Begins};
 ghost use Rattle.builder.specs.Reading.{keys_between};
+ghost use Rattle.builder.specs.Certificate.{Stands, IsKept, called, NeverStale, ReadsPath};
 ghost use Rattle.builder.specs.Lent.{SameTables, SameFurtherSlots, Untouched};
 
 use crate::fault::BuilderFault;
@@ -27,9 +35,17 @@ pub struct ExecutableDocumentBuilder<'s, S> {
 // Empties an index: the first 512 slots.
 fn empty_index(slots: &mut [u32])
     requires { 512 ≤ length slots.old }
-    ensures { slots.new ≡ replicate 512 0 ++ drop 512 slots.old }
+    ensures emptied { slots.new ≡ replicate 512 0 ++ drop 512 slots.old }
+    ensures sound { Sound same_name name_hash [] (take 512 slots.new) }
 {
     empty::<StoredDefinition>(&mut slots[..INDEX_SLOTS]);
+}
+
+// What stands from one place up to another, if there is so much.
+fn keys_at(keys: &[u32], first: usize, end: usize) -> &[u32]
+    ensures { result.now ≡ keys_between keys.now first end }
+{
+    keys.get(first..end).unwrap_or(&[])
 }
 
 impl<'s, S: Schema> ExecutableDocumentBuilder<'s, S> {
@@ -41,6 +57,7 @@ impl<'s, S: Schema> ExecutableDocumentBuilder<'s, S> {
         ensures begins { Begins tables.old tables.new result }
         ensures schema { IfOk result (λ b. b.schema ≡ schema.entry) }
         ensures same { SameTables tables.old tables.new }
+        ensures calls { IfOk result (λ b. Stands S.Schema.meaning (S.Schema.meaning schema.now) [] b tables.new) }
     {
         if tables.operation_slots.len() < INDEX_SLOTS || tables.fragment_slots.len() < INDEX_SLOTS {
             return Err(BuilderFault::IndexUnfit);
@@ -77,6 +94,8 @@ impl<'s, S: Schema> ExecutableDocumentBuilder<'s, S> {
         ensures further { SameFurtherSlots tables.old tables.new }
         ensures refused { IfErr result (λ _. ((self.new ≡ self.old) × Untouched tables.old tables.new)) }
         ensures same { SameTables tables.old tables.new }
+        ensures calls { (m : Meaning) (calls : List Call) → Stands S.Schema.meaning m calls self.old tables.old → Stands S.Schema.meaning m (calls ++ called document.now.definitions.now document.now.rows.now strict (is_err result) ∷ []) self.new tables.new }
+        ensures never { (m : Meaning) (calls : List Call) → Stands S.Schema.meaning m calls self.old tables.old → NeverStale result }
     {
         self.progress.judge(tables, document)?;
         self.progress = take_document(
@@ -98,6 +117,7 @@ impl<'s, S: Schema> ExecutableDocumentBuilder<'s, S> {
     /// Whether errors are listed.
     pub fn has_errors(&self) -> bool
         ensures listed { result ≡ nat_lt 0 self.now.progress.filled.errors }
+        ensures valid { (m : Meaning) (calls : List Call) (tables : Tables) → Stands S.Schema.meaning m calls self.now tables → Closed m → (result ≡ false) ↔ Valid m (accepted calls) }
     {
         self.progress.filled.errors > 0
     }
@@ -108,6 +128,7 @@ impl<'s, S: Schema> ExecutableDocumentBuilder<'s, S> {
         ensures operations { result.operations.now ≡ take self.now.progress.operations tables.now.operations.now }
         ensures fragments { result.fragments.now ≡ take self.now.progress.fragments tables.now.fragments.now }
         ensures rows { result.rows.now ≡ take self.now.progress.filled.rows tables.now.rows.now }
+        ensures kept { (m : Meaning) (calls : List Call) → Stands S.Schema.meaning m calls self.now tables.now → IsKept m calls result }
     {
         self.progress.stored(tables)
     }
@@ -115,6 +136,7 @@ impl<'s, S: Schema> ExecutableDocumentBuilder<'s, S> {
     /// The errors that are listed in the tables.
     pub fn errors<'t>(&self, tables: &'t Tables<'_>) -> &'t [BuildError]
         ensures errors { result.now ≡ take self.now.progress.filled.errors tables.now.errors.now }
+        ensures listed { (m : Meaning) (calls : List Call) → Stands S.Schema.meaning m calls self.now tables.now → result.now ≡ error_rows 0 (listed_in m calls) }
     {
         in_use(tables.errors, self.progress.filled.errors)
     }
@@ -122,8 +144,9 @@ impl<'s, S: Schema> ExecutableDocumentBuilder<'s, S> {
     /// The response keys of a path, the outermost first.
     pub fn response_keys<'t>(&self, tables: &'t Tables<'_>, path: SelectionPath) -> &'t [u32]
         ensures keys { result.now ≡ keys_between (take self.now.progress.filled.path_keys tables.now.path_keys.now) path.first_key path.end_key }
+        ensures listed { (m : Meaning) (calls : List Call) → Stands S.Schema.meaning m calls self.now tables.now → ReadsPath m calls path result.now }
     {
         let keys = in_use(tables.path_keys, self.progress.filled.path_keys);
-        keys.get(path.first_key as usize..path.end_key as usize).unwrap_or(&[])
+        keys_at(keys, path.first_key as usize, path.end_key as usize)
     }
 }

@@ -103,8 +103,7 @@ fn take_definition<S: Schema>(
         path_keys,
         next.filled,
     );
-    let definition =
-        StoredDefinition::new(row, first as u32, next.filled.rows as u32, set_type);
+    let definition = StoredDefinition::new(row, first as u32, next.filled.rows as u32, set_type);
     keep_definition(
         definition,
         next,

@@ -19,7 +19,7 @@ use Rattle.builder.specs.Taking.{handed_in, Ready}
 use Rattle.builder.specs.Space.{Space}
 use Rattle.builder.proofs.Bounds.{set_few}
 use Rattle.builder.proofs.Kepts.{same_held}
-use Rattle.builder.proofs.Ones.{held_with, own, multiple, own_output, left_out, all, place, set_output, stored_in_place}
+use Rattle.builder.proofs.Ones.{held_with, own, own_output, left_out, all, place, set_output, stored_in_place}
 use Rattle.builder.proofs.take.take_definition.Goals as goal
 
 pub returns-in_default-clause-taken : goal.returns-in_default-clause-taken

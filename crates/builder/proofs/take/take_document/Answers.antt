@@ -1,8 +1,6 @@
 -- Each turn takes in one definition.
-use Rattle.std.proofs.Common.{sym, ap, ◌∙◌, arith}
-use Rattle.document.specs.Rows.{head_of}
-use Rattle.builder.specs.Holding.{held}
-use Rattle.builder.proofs.Going.{Going, begin, here, this, ready, go_on, finish}
+use Rattle.std.proofs.Common.{arith}
+use Rattle.builder.proofs.Going.{begin, here, ready, go_on, finish}
 use Rattle.builder.proofs.take.take_document.Goals as goal
 
 pub loop-place-init : goal.loop-place-init
