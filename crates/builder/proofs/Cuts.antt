@@ -6,11 +6,11 @@ use Rattle.selection_rules.specs.declared.stored.StoredRow.{StoredRow}
 use Rattle.selection_rules.specs.declared.error.BuildError.{BuildError}
 use Rattle.selection_rules.specs.Errors.{Error, keys_of, keys_in}
 use Rattle.stored_tables.specs.declared.definition.StoredDefinition.{StoredDefinition}
+use Rattle.building_rules.proofs.Fits.{keys_join}
 use Rattle.builder.specs.declared.progress.Progress.{Progress}
 use Rattle.builder.specs.Holding.{table, held}
 use Rattle.builder.specs.Storing.{Indexed}
 use Rattle.builder.specs.Reading.{keys_between}
-use Rattle.builder.proofs.Outputs.{keys_joined}
 
 -- the first 512 slots of an index are those that were cut out of it
 pub first_slots : (p : Progress) (operations : List StoredDefinition) (s xs : List ℕ) (fragments : List StoredDefinition) (u ys : List ℕ) (rows : List StoredRow) (errors : List BuildError) (keys : List ℕ)
@@ -38,7 +38,7 @@ pub keys_of_path : (keys : List ℕ) (es before after : List Error) (e : Error) 
     → first ≡ length (keys_in before) → end ≡ length (keys_in before) + length path → keys_between keys first end ≡ path
 keys_of_path keys es before after e path first end is there own starts ends =
     let a = keys_in before in
-    let all : keys ≡ a ++ (path ++ keys_in after) = is ∙ ap keys_in there ∙ keys_joined before (e ∷ after) ∙ ap (λ (l : List ℕ). a ++ (l ++ keys_in after)) own in
+    let all : keys ≡ a ++ (path ++ keys_in after) = is ∙ ap keys_in there ∙ keys_join before (e ∷ after) ∙ ap (λ (l : List ℕ). a ++ (l ++ keys_in after)) own in
     ap (λ (l : List ℕ). keys_between l first end) all
     ∙ ap (λ (n : ℕ). keys_between (a ++ (path ++ keys_in after)) n end) starts
     ∙ ap (keys_between (a ++ (path ++ keys_in after)) (length a)) ends

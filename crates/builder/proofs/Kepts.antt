@@ -9,14 +9,14 @@ use Rattle.selection_rules.specs.Errors.{Error, keys_in, error_rows}
 use Rattle.building_rules.specs.Definitions.{Kept, Role, role_of, Taken, taken, State}
 use Rattle.building_rules.specs.Rules.{anonymous_role, named_role, fragment_role}
 use Rattle.building_rules.specs.Bounds.{rows_kept}
-use Rattle.building_rules.proofs.Fits.{rows_join}
+use Rattle.building_rules.proofs.Fits.{keys_join, rows_join}
 use Rattle.stored_tables.specs.declared.definition.StoredDefinition.{StoredDefinition}
 use Rattle.stored_tables.specs.Layout.{laid_out, rows_of, those_of, operations_of, fragments_of, latest, anonymous_of}
 use Rattle.builder.specs.Filling.{put, Output}
 use Rattle.stored_tables.specs.Verdict.{no_stored_definition}
 use Rattle.builder.specs.Holding.{Table, entered, all_entered, Held, taken_by, location_of, state_of, filled_with}
 use Rattle.builder.proofs.Puts.{put-put}
-use Rattle.builder.proofs.Outputs.{same_output, keys_joined, rows_joined, length_rows}
+use Rattle.builder.proofs.Outputs.{same_output, rows_joined, length_rows}
 
 -- equal parts make it equal
 pub same_held : {a a' b b' : Table} {o o' : Output} {x x' : Option StoredDefinition} {m m' : Bool} → a ≡ a' → b ≡ b' → o ≡ o' → x ≡ x' → m ≡ m'
@@ -74,10 +74,10 @@ filled_two h ks js es fs b c fit =
     (same_output
     (put-put h.output.rows n (rows_of n ks) (rows_of (n + rows_kept ks) js) (n + rows_kept ks) (omega arith) fit.rows ∙ ap (put h.output.rows n) (sym (rows_two n ks js)))
     (put-put h.output.errors k (error_rows q es) (error_rows (q + length (keys_in es)) fs) (k + length es) (omega arith) fit.errors ∙ ap (put h.output.errors k) (sym (rows_joined q es fs)))
-    (put-put h.output.path_keys q (keys_in es) (keys_in fs) (q + length (keys_in es)) refl fit.keys ∙ ap (put h.output.path_keys q) (sym (keys_joined es fs)))
+    (put-put h.output.path_keys q (keys_in es) (keys_in fs) (q + length (keys_in es)) refl fit.keys ∙ ap (put h.output.path_keys q) (sym (keys_join es fs)))
     (omega (arith, rows_join ks js))
     (omega (arith, length-append es fs))
-    (omega (arith, ap length (keys_joined es fs), length-append (keys_in es) (keys_in fs))))
+    (omega (arith, ap length (keys_join es fs), length-append (keys_in es) (keys_in fs))))
     (latest_two h.anonymous (those_of anonymous_role n ks) (those_of anonymous_role (n + rows_kept ks) js) ∙ ap (latest h.anonymous) (sym (those_two anonymous_role n ks js)))
     refl
 

@@ -1,11 +1,11 @@
 -- The state after definitions is read off what is kept of them.
 use Rattle.std.proofs.Common.{◌≡◌, ℕ, Bool, true, false, cond, List, [], ◌∷◌, ◌++◌, Some, None, Option, sym, refl, ap, ◌∙◌, append_assoc, append-nil}
 use Rattle.schema.specs.Meaning.{Meaning}
-use Rattle.building_rules.specs.Definitions.{Accepted, Role, role_of, Kept, Taken, taken, State, fresh, Outcome, step, kept_from, state_after, kept_in}
+use Rattle.building_rules.specs.Definitions.{Accepted, Role, role_of, Kept, Taken, taken, State, Outcome}
 use Rattle.building_rules.specs.Rules.{anonymous_role, named_role, fragment_role}
 use Rattle.building_rules.specs.Chosen.{kept_with}
 use Rattle.building_rules.proofs.Definitions.{advance}
-use Rattle.building_rules.proofs.Steps.{Stores, anonymous_free, Becomes, becomes}
+use Rattle.building_rules.proofs.Steps.{Stores, anonymous_free, Becomes}
 
 -- the names of the kept definitions of a role, the latest first
 abbrev pub names_kept : (Role → Bool) → List Kept → List Taken
@@ -67,13 +67,3 @@ module _ (m : Meaning) (s : State) (d : Accepted) (ks : List Kept) (t : Tells s 
   tells_step o (Becomes.passes k e never) =
       rw (k, append-nil)
       (record { anonymous = e.anonymous ∙ t.anonymous; operations = e.operations ∙ t.operations; fragments = e.fragments ∙ t.fragments })
-
-tells_on : (m : Meaning) (s : State) (ds : List Accepted) (ks : List Kept) → Tells s ks → Tells (state_after m s ds) (ks ++ kept_from m s ds)
-tells_on m s [] ks t = rw append-nil t
-tells_on m s (d ∷ ds) ks t =
-    rw (← append_assoc ks (step m s d).kept (kept_from m (step m s d).next ds))
-    (tells_on m (step m s d).next ds (ks ++ (step m s d).kept) (tells_step m s d ks t (step m s d) (becomes m s d)))
-
--- the state after definitions tells of what is kept of them
-pub state_of_kept : (m : Meaning) (ds : List Accepted) → Tells (state_after m fresh ds) (kept_in m ds)
-state_of_kept m ds = tells_on m fresh ds [] (record { anonymous = refl; operations = refl; fragments = refl })
