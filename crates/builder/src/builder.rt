@@ -12,6 +12,7 @@ use stored_tables::{StoredDefinition, StoredDocument, Tables};
 
 /// A builder over a schema. What it stores and lists stands in the tables that are lent to its calls, always the same ones;
 /// it keeps how far they are filled.
+#[derive(Drop)]
 pub struct ExecutableDocumentBuilder<'s, S> {
     schema: &'s S,
     progress: Progress,
