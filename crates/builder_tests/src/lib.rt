@@ -1,0 +1,14 @@
+// Tests of the builder from outside, as another crate uses it: its limits at work, each refusal with what it leaves
+// unchanged, and what many calls on one builder list and store.
+#![tactic(auto)]
+
+#[cfg(test)]
+mod closed;
+#[cfg(test)]
+mod desk;
+#[cfg(test)]
+mod lent;
+#[cfg(test)]
+mod limits;
+#[cfg(test)]
+mod rows;
