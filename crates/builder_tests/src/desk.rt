@@ -1,11 +1,10 @@
 // A builder together with the tables that are lent to it, and the documents that come to it. Whenever a document is
 // refused, all that stands in the tables, and all that the builder answers, is looked at before and after.
 use crate::lent::{Lengths, Lent, definition_numbers, numbers};
-use builder::{BuilderFault, ExecutableDocumentBuilder};
+use builder::ExecutableDocumentBuilder;
 use document::Document;
 use refusal::{Layer, Reason, Refusal};
 use schema::Schema;
-use selection_rules::BuildError;
 use std::alloc::{AllocError, Global};
 use std::process::Abort;
 use std::test::Fail;
@@ -32,7 +31,17 @@ pub struct Desk<'s, S> {
 impl<'s, S: Schema> Desk<'s, S> {
     // A fresh builder with tables of these lengths, and indexes that are just long enough.
     pub fn new(heap: Global, schema: &'s S, lengths: Lengths) -> Result<Desk<'s, S>, Fail> {
-        let mut lent = Lent::new(heap, lengths, [512, 512])?;
+        Desk::with_slots(heap, schema, lengths, [512, 512])
+    }
+
+    // A fresh builder with tables of these lengths, and so many slots for operations and for fragments.
+    pub fn with_slots(
+        heap: Global,
+        schema: &'s S,
+        lengths: Lengths,
+        slots: [usize; 2],
+    ) -> Result<Desk<'s, S>, Fail> {
+        let mut lent = Lent::new(heap, lengths, slots)?;
         let builder = ExecutableDocumentBuilder::new(schema, &mut lent.tables())?;
         Ok(Desk { builder, lent })
     }

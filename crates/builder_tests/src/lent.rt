@@ -18,7 +18,7 @@ pub const LIMITS: Lengths = [
 ];
 
 // What stands in places that no call has written.
-const UNWRITTEN: u32 = 77;
+pub const UNWRITTEN: u32 = 77;
 
 #[derive(Drop)]
 pub struct Lent {
@@ -68,6 +68,17 @@ impl Lent {
             rows: self.rows.as_mut_slice(),
             errors: self.errors.as_mut_slice(),
             path_keys: self.path_keys.as_mut_slice(),
+        }
+    }
+
+    // Shortens one of the five tables, told by its place among the lengths.
+    pub fn shorten(&mut self, table: usize, length: usize) {
+        match table {
+            0 => self.operations.truncate(length),
+            1 => self.fragments.truncate(length),
+            2 => self.rows.truncate(length),
+            3 => self.errors.truncate(length),
+            _ => self.path_keys.truncate(length),
         }
     }
 }

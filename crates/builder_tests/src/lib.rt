@@ -7,8 +7,12 @@ mod closed;
 #[cfg(test)]
 mod desk;
 #[cfg(test)]
+mod lengths;
+#[cfg(test)]
 mod lent;
 #[cfg(test)]
 mod limits;
 #[cfg(test)]
 mod rows;
+#[cfg(test)]
+mod sample;
