@@ -5,6 +5,8 @@
 #[cfg(test)]
 mod closed;
 #[cfg(test)]
+mod damage;
+#[cfg(test)]
 mod desk;
 #[cfg(test)]
 mod lengths;
@@ -16,3 +18,7 @@ mod limits;
 mod rows;
 #[cfg(test)]
 mod sample;
+#[cfg(test)]
+mod stored_definitions;
+#[cfg(test)]
+mod stored_rows;
