@@ -1,9 +1,8 @@
 // One number of what a builder stored is changed before it is handed back.
-use crate::desk::{Desk, refused};
+use crate::desk::{Desk, stored_broken};
 use crate::lent::{Lent, definition_numbers, row_numbers};
 use crate::sample::{NEEDED, NOTHING, filled};
 use document::{DefinitionRow, SelectionRow};
-use refusal::Reason;
 use schema::Schema;
 use selection_rules::StoredRow;
 use std::process::Abort;
@@ -116,11 +115,7 @@ pub fn damage_is_told<S: Schema>(
     for &damage in damages {
         damage.make(&mut desk.lent);
     }
-    let verdict = if row == 0 {
-        None
-    } else {
-        refused(Reason::StoredBroken, row)
-    };
+    let verdict = if row == 0 { None } else { stored_broken(row) };
     assert_eq!(rt; desk.add(rt, &NOTHING, false)?, verdict, "{}", case);
     Ok(())
 }

@@ -13,10 +13,29 @@ use stored_tables::StoredDefinition;
 // How a document is refused, if it is.
 pub type Verdict = Option<Refusal>;
 
-// Refused by the builder itself for a reason, at a row or at none.
-pub fn refused(reason: Reason, row: u32) -> Verdict {
+// Refused by the builder itself, at no row.
+pub const TOO_SHORT: Verdict = Some(Refusal {
+    reason: Reason::TableTooShort,
+    layer: Layer::Builder,
+    row: 0,
+});
+
+pub const UNFIT: Verdict = Some(Refusal {
+    reason: Reason::IndexUnfit,
+    layer: Layer::Builder,
+    row: 0,
+});
+
+pub const NO_ROOM: Verdict = Some(Refusal {
+    reason: Reason::NoRoom,
+    layer: Layer::Builder,
+    row: 0,
+});
+
+// Refused for what is stored: a row, or a definition by its place in its table.
+pub fn stored_broken(row: u32) -> Verdict {
     Some(Refusal {
-        reason,
+        reason: Reason::StoredBroken,
         layer: Layer::Builder,
         row,
     })

@@ -1,11 +1,11 @@
 // Tables and indexes that are just long enough or one place short: when a builder is made, when a document is added, and
 // when they are handed back.
 use crate::closed::closed_schema;
-use crate::desk::{Desk, refused};
+use crate::desk::{Desk, NO_ROOM, TOO_SHORT, UNFIT};
 use crate::lent::{Lengths, Lent, UNWRITTEN, numbers};
 use crate::sample::{FILLED, NEEDED, NOTHING, add_sample, filled};
 use builder::ExecutableDocumentBuilder;
-use refusal::{Reason, Refusal};
+use refusal::Refusal;
 use schema::OpenSchema;
 use std::test::Fail;
 
@@ -24,12 +24,7 @@ fn room_in_each_table(rt: HostRuntime) -> Result<(), Fail> {
     filled(&rt, &schema, NEEDED)?;
     for table in 0..5usize {
         let mut desk = Desk::new(rt.alloc(), &schema, one_short(NEEDED, table))?;
-        assert_eq!(rt;
-            add_sample(&rt, &mut desk)?,
-            refused(Reason::NoRoom, 0),
-            "{}",
-            table
-        );
+        assert_eq!(rt; add_sample(&rt, &mut desk)?, NO_ROOM, "{}", table);
         assert_eq!(rt; desk.counts(), [0; 4]);
     }
     Ok(())
@@ -44,12 +39,7 @@ fn room_beside_what_is_stored(rt: HostRuntime) -> Result<(), Fail> {
     assert_eq!(rt; add_sample(&rt, &mut desk)?, None);
     for table in 0..5usize {
         let mut desk = filled(&rt, &schema, one_short(both, table))?;
-        assert_eq!(rt;
-            add_sample(&rt, &mut desk)?,
-            refused(Reason::NoRoom, 0),
-            "{}",
-            table
-        );
+        assert_eq!(rt; add_sample(&rt, &mut desk)?, NO_ROOM, "{}", table);
     }
     Ok(())
 }
@@ -60,8 +50,8 @@ fn tables_handed_back(rt: HostRuntime) -> Result<(), Fail> {
     for (table, &count) in FILLED.iter().enumerate() {
         for (length, verdict) in [
             (count, None),
-            (count.saturating_sub(1), refused(Reason::TableTooShort, 0)),
-            (0, refused(Reason::TableTooShort, 0)),
+            (count.saturating_sub(1), TOO_SHORT),
+            (0, TOO_SHORT),
         ] {
             let mut desk = filled(&rt, &schema, NEEDED)?;
             desk.lent.shorten(table, length);
@@ -84,12 +74,7 @@ fn indexes_lent(rt: HostRuntime) -> Result<(), Fail> {
         let mut lent = Lent::new(rt.alloc(), NEEDED, slots)?;
         let before = numbers(rt.alloc(), &lent.tables())?;
         let fault = ExecutableDocumentBuilder::new(&OpenSchema, &mut lent.tables()).err();
-        assert_eq!(rt;
-            fault.map(Refusal::from),
-            refused(Reason::IndexUnfit, 0),
-            "{:?}",
-            slots
-        );
+        assert_eq!(rt; fault.map(Refusal::from), UNFIT, "{:?}", slots);
         assert!(rt; numbers(rt.alloc(), &lent.tables())? == before);
     }
     Ok(())

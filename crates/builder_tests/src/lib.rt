@@ -9,11 +9,17 @@ mod damage;
 #[cfg(test)]
 mod desk;
 #[cfg(test)]
+mod handed;
+#[cfg(test)]
+mod indexes;
+#[cfg(test)]
 mod lengths;
 #[cfg(test)]
 mod lent;
 #[cfg(test)]
 mod limits;
+#[cfg(test)]
+mod orders;
 #[cfg(test)]
 mod rows;
 #[cfg(test)]

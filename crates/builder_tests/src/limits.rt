@@ -1,10 +1,9 @@
 // The builder's limits, each met and then passed by one, with tables as long as the limits and with longer ones.
 use crate::closed::{AGAIN_FIELD, NOWHERE, closed_schema};
-use crate::desk::{Desk, Verdict, refused};
+use crate::desk::{Desk, NO_ROOM, Verdict};
 use crate::lent::{LIMITS, Lengths};
 use crate::rows::{FIRST_NAME, FRAGMENT, OPERATION, definition, flat, hanging, named};
 use document::{Document, SelectionRow};
-use refusal::Reason;
 use schema::{OpenSchema, Schema};
 use std::process::Abort;
 use std::test::Fail;
@@ -15,11 +14,7 @@ const LENGTHS: [Lengths; 2] = [LIMITS, [300, 300, 20_000, 20_000, 140_000]];
 type Call = (u16, u16, bool);
 
 fn room(there_is: bool) -> Verdict {
-    if there_is {
-        None
-    } else {
-        refused(Reason::NoRoom, 0)
-    }
+    if there_is { None } else { NO_ROOM }
 }
 
 // Calls on one builder, each with definitions of new names, the first of which has all rows, fields of one name. In the
@@ -158,15 +153,14 @@ fn path_keys(rt: HostRuntime) -> Result<(), Fail> {
     for calls in KEYS {
         for lengths in LENGTHS {
             let mut desk = Desk::new(rt.alloc(), &schema, lengths)?;
-            for (i, &(deep, beside, there_is)) in calls.iter().enumerate() {
+            for (name, &(deep, beside, there_is)) in (FIRST_NAME..200).zip(calls) {
                 let rows = if deep == 0 {
                     flat(rt.alloc(), NOWHERE, beside)?
                 } else {
                     hanging(rt.alloc(), (AGAIN_FIELD, 31), (NOWHERE, deep))?
                 };
-                let name = FIRST_NAME + (i % 256) as u32;
                 let verdict = add_fragment(&rt, &mut desk, name, rows.as_slice())?;
-                assert_eq!(rt; verdict, room(there_is), "{}", i);
+                assert_eq!(rt; verdict, room(there_is), "{}", name);
             }
         }
     }
