@@ -43,7 +43,7 @@ pub fn stored_broken(row: u32) -> Verdict {
 
 #[derive(Drop)]
 pub struct Desk<'s, S> {
-    builder: ExecutableDocumentBuilder<'s, S>,
+    pub builder: ExecutableDocumentBuilder<'s, S>,
     pub lent: Lent,
 }
 

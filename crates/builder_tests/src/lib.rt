@@ -23,7 +23,11 @@ mod orders;
 #[cfg(test)]
 mod rows;
 #[cfg(test)]
+mod runs;
+#[cfg(test)]
 mod sample;
+#[cfg(test)]
+mod stored;
 #[cfg(test)]
 mod stored_definitions;
 #[cfg(test)]
