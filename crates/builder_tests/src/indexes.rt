@@ -48,20 +48,18 @@ fn one_slot_damaged(rt: HostRuntime) -> Result<(), Fail> {
         let slots = slots_of(&mut desk.lent, operations)
             .as_slice()
             .to_vec(rt.alloc())?;
-        let mut used = 0;
+        assert_eq!(rt; slots.iter().filter(|slot| **slot != 0).count(), 2);
         for (place, &held) in slots.iter().enumerate() {
             // of the empty slots some, of the others all
             if held == 0 && place % 64 != 0 {
                 continue;
             }
-            used += usize::from(held != 0);
             for value in [0, 1, 2, 3, u32::MAX] {
                 let verdict = with_slot(&rt, &mut desk, operations, place, value)?;
                 let expected = if value == held { None } else { UNFIT };
                 assert_eq!(rt; verdict, expected, "{}; {}; {}", operations, place, value);
             }
         }
-        assert_eq!(rt; used, 2);
     }
     Ok(())
 }
@@ -97,10 +95,9 @@ fn other_indexes(rt: HostRuntime) -> Result<(), Fail> {
         assert_eq!(rt; other.add(&rt, &NOTHING, false)?, None);
     }
     let mut desk = filled(&rt, &schema, NEEDED)?;
-    mem::swap(
-        &mut desk.lent.operation_slots,
-        &mut desk.lent.fragment_slots,
-    );
+    let fragment_slots = desk.lent.fragment_slots.as_slice().to_vec(rt.alloc())?;
+    let operation_slots = mem::replace(slots_of(&mut desk.lent, true), fragment_slots);
+    *slots_of(&mut desk.lent, false) = operation_slots;
     assert_eq!(rt; desk.add(&rt, &NOTHING, false)?, UNFIT);
     Ok(())
 }

@@ -94,6 +94,17 @@ fn definitions_are(rt: &impl Abort, definitions: &[StoredDefinition], expected: 
     }
 }
 
+fn stored_is<S: Schema>(rt: &impl Abort, desk: &mut Desk<'_, S>, expected: Stored) {
+    let tables = desk.lent.tables();
+    let stored = desk.builder.stored(&tables);
+    definitions_are(rt, stored.operations, expected.0);
+    definitions_are(rt, stored.fragments, expected.1);
+    assert_eq!(rt;
+        stored.anonymous.map(|definition| definition.row.location),
+        expected.2
+    );
+}
+
 // Each call, with refused ones before it, lists its errors; and in the end so much is stored.
 fn run(rt: &(impl Abort + AllocGlobal), calls: &[Call], expected: Stored) -> Result<(), Fail> {
     let schema = closed_schema(rt.alloc())?;
@@ -108,14 +119,7 @@ fn run(rt: &(impl Abort + AllocGlobal), calls: &[Call], expected: Stored) -> Res
         assert_eq!(rt; desk.add(rt, &document, strict)?, None, "{}", i);
         errors_are(rt, &mut desk, before, i, listed);
     }
-    let tables = desk.lent.tables();
-    let stored = desk.builder.stored(&tables);
-    definitions_are(rt, stored.operations, expected.0);
-    definitions_are(rt, stored.fragments, expected.1);
-    assert_eq!(rt;
-        stored.anonymous.map(|definition| definition.row.location),
-        expected.2
-    );
+    stored_is(rt, &mut desk, expected);
     Ok(())
 }
 

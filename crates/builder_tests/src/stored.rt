@@ -7,8 +7,11 @@ use crate::lent::{definition_numbers, error_numbers, row_numbers};
 use crate::rows::{OPERATION, definition, field};
 use crate::sample::{NEEDED, filled};
 use document::{Document, SelectionRow};
+use schema::Schema;
 use selection_rules::{BuildError, ExecutableDefinitionName, SelectionPath, StoredRow};
+use std::process::Abort;
 use std::test::Fail;
+use stored_tables::StoredDefinition;
 
 // A stored row by kind, name, condition, end, place and set type; the other members are 0.
 fn stored_row([kind, name, condition, end, place, set_type]: [u32; 6]) -> StoredRow {
@@ -39,37 +42,45 @@ const SAMPLE_ROWS: [[u32; 6]; 11] = [
     [1, UNIT_FIELD, 0, 11, 2, UNIT],
 ];
 
+fn rows_are<S: Schema>(rt: &impl Abort, desk: &mut Desk<'_, S>, expected: &[[u32; 6]]) {
+    let tables = desk.lent.tables();
+    let stored = desk.builder.stored(&tables);
+    assert_eq!(rt; stored.rows.len(), expected.len());
+    for (row, &told) in stored.rows.iter().zip(expected) {
+        assert_eq!(rt; row_numbers(row), row_numbers(&stored_row(told)));
+    }
+}
+
+fn definition_is(rt: &impl Abort, definition: Option<StoredDefinition>, expected: [u32; 12]) {
+    assert_eq!(rt;
+        definition.map(|stored| definition_numbers(&stored)),
+        Some(expected)
+    );
+}
+
 #[test]
 fn sample_stored(rt: HostRuntime) -> Result<(), Fail> {
     let schema = closed_schema(rt.alloc())?;
     let mut desk = filled(&rt, &schema, NEEDED)?;
-    let tables = desk.lent.tables();
-    let stored = desk.builder.stored(&tables);
-    assert_eq!(rt; stored.rows.len(), SAMPLE_ROWS.len());
-    for (row, &expected) in stored.rows.iter().zip(&SAMPLE_ROWS) {
-        assert_eq!(rt; row_numbers(row), row_numbers(&stored_row(expected)));
+    rows_are(&rt, &mut desk, &SAMPLE_ROWS);
+    definition_is(
+        &rt,
+        desk.anonymous(),
+        [1, 0, 0, 0, 0, 0, 0, 0, 0, 0, 1, QUERY],
+    );
+    for (place, expected) in [
+        (0, [1, 0, 30, 0, 0, 0, 0, 0, 0, 1, 6, QUERY]),
+        (1, [1, 0, 31, 0, 0, 0, 0, 0, 0, 8, 9, QUERY]),
+    ] {
+        let stored = desk.lent.operations.get(place as usize).copied();
+        definition_is(&rt, stored, expected);
     }
-    let definitions = [
-        (stored.anonymous, [1, 0, 0, 0, 0, 0, 0, 0, 0, 0, 1, QUERY]),
-        (
-            stored.operations.first().copied(),
-            [1, 0, 30, 0, 0, 0, 0, 0, 0, 1, 6, QUERY],
-        ),
-        (
-            stored.operations.last().copied(),
-            [1, 0, 31, 0, 0, 0, 0, 0, 0, 8, 9, QUERY],
-        ),
-        (
-            stored.fragments.first().copied(),
-            [2, 0, 40, 1, 0, 0, 0, 0, 0, 6, 8, QUERY],
-        ),
-        (
-            stored.fragments.last().copied(),
-            [2, 0, 41, 1, 0, 0, 0, 0, 0, 9, 11, QUERY],
-        ),
-    ];
-    for (definition, expected) in definitions {
-        assert_eq!(rt; definition.map(|d| definition_numbers(&d)), Some(expected));
+    for (place, expected) in [
+        (0, [2, 0, 40, 1, 0, 0, 0, 0, 0, 6, 8, QUERY]),
+        (1, [2, 0, 41, 1, 0, 0, 0, 0, 0, 9, 11, QUERY]),
+    ] {
+        let stored = desk.lent.fragments.get(place as usize).copied();
+        definition_is(&rt, stored, expected);
     }
     Ok(())
 }
@@ -90,13 +101,16 @@ const FAULTY: [[u32; 5]; 10] = [
     [1, NOWHERE, 73, 0, 10],
 ];
 
-// The errors, without the path's keys, and these.
-const FAULTS: [([u32; 7], &'static [u32]); 5] = [
-    ([7, 301, NOWHERE, 0, 2, 0, 30], &[70]),
-    ([8, 104, ID, 0, 2, 0, 30], &[70, 71, 72]),
-    ([10, 206, METER, NOWHERE, 2, 0, 30], &[70, 71, NOWHERE]),
-    ([9, 107, UNIT, 0, 2, 0, 30], &[70, UNIT_FIELD]),
-    ([10, 209, QUERY, NOWHERE, 2, 0, 30], &[70, 73]),
+// The errors, and the response keys of their paths.
+const FAULTS: [([u32; 9], &'static [u32]); 5] = [
+    ([7, 301, NOWHERE, 0, 2, 0, 30, 0, 1], &[70]),
+    ([8, 104, ID, 0, 2, 0, 30, 1, 4], &[70, 71, 72]),
+    (
+        [10, 206, METER, NOWHERE, 2, 0, 30, 4, 7],
+        &[70, 71, NOWHERE],
+    ),
+    ([9, 107, UNIT, 0, 2, 0, 30, 7, 9], &[70, UNIT_FIELD]),
+    ([10, 209, QUERY, NOWHERE, 2, 0, 30, 9, 11], &[70, 73]),
 ];
 
 // A field's locations are its place and 100, and 200 for its name; an inline fragment's condition stands at 300.
@@ -115,6 +129,21 @@ fn faulty_row(place: u32, [kind, name, alias, condition, end]: [u32; 5]) -> Sele
     }
 }
 
+// Each error, and the response keys of its path.
+fn faults_are<S: Schema>(
+    rt: &impl Abort,
+    desk: &mut Desk<'_, S>,
+    expected: &[([u32; 9], &'static [u32])],
+) -> Result<(), Fail> {
+    let tables = desk.lent.tables();
+    for (error, &(members, keys)) in desk.builder.errors(&tables).iter().zip(expected) {
+        assert_eq!(rt; error_numbers(*error), members);
+        let path = path_of(*error).ok_or("an error without a path")?;
+        assert_eq!(rt; desk.builder.response_keys(&tables, path), keys);
+    }
+    Ok(())
+}
+
 #[test]
 fn paths_listed(rt: HostRuntime) -> Result<(), Fail> {
     let schema = closed_schema(rt.alloc())?;
@@ -129,13 +158,7 @@ fn paths_listed(rt: HostRuntime) -> Result<(), Fail> {
     };
     assert_eq!(rt; desk.add(&rt, &document, true)?, None);
     assert_eq!(rt; desk.counts(), [1, 0, 2, 5]);
-    let tables = desk.lent.tables();
-    for (error, &(members, keys)) in desk.builder.errors(&tables).iter().zip(&FAULTS) {
-        assert_eq!(rt; &error_numbers(*error)[..7], &members[..]);
-        let path = path_of(*error).ok_or("an error without a path")?;
-        assert_eq!(rt; desk.builder.response_keys(&tables, path), keys);
-    }
-    Ok(())
+    faults_are(&rt, &mut desk, &FAULTS)
 }
 
 // The path of an error of a selection.
@@ -149,12 +172,16 @@ fn path_of(error: BuildError) -> Option<SelectionPath> {
     }
 }
 
+fn path_keys<S: Schema>(desk: &mut Desk<'_, S>, path: SelectionPath) -> usize {
+    let tables = desk.lent.tables();
+    desk.builder.response_keys(&tables, path).len()
+}
+
 // Of a path that does not stand among the keys in use, no key is told.
 #[test]
 fn no_such_path(rt: HostRuntime) -> Result<(), Fail> {
     let schema = closed_schema(rt.alloc())?;
     let mut desk = filled(&rt, &schema, NEEDED)?;
-    let tables = desk.lent.tables();
     for (first_key, end_key, count) in [
         (0, 2, 2),
         (1, 2, 1),
@@ -168,8 +195,13 @@ fn no_such_path(rt: HostRuntime) -> Result<(), Fail> {
             first_key,
             end_key,
         };
-        let keys = desk.builder.response_keys(&tables, path);
-        assert_eq!(rt; keys.len(), count, "{}; {}", first_key, end_key);
+        assert_eq!(rt;
+            path_keys(&mut desk, path),
+            count,
+            "{}; {}",
+            first_key,
+            end_key
+        );
     }
     Ok(())
 }
