@@ -113,7 +113,7 @@ fn rows<F: Fn(u32) -> SelectionRow>(
 ) -> Result<Vec<SelectionRow>, AllocError>
     requires { F.IsAlwaysCallable row_of }
 {
-    (0..ROWS).map(row_of).collect(heap)
+    (0..ROWS).map(|place| row_of(place)).collect(heap)
 }
 
 fn one_operation<F: Fn(u32) -> SelectionRow>(
