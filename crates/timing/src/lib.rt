@@ -20,7 +20,7 @@ pub struct Rounds<'n> {
 }
 
 /// Writes how long each of what was gone over took, in tenths of a nanosecond.
-fn report(rt: &impl Eprint, what: &str, rounds: Rounds<'_>, spent: Duration) -> io::Result<()> {
+pub fn report(rt: &impl Eprint, what: &str, rounds: Rounds<'_>, spent: Duration) -> io::Result<()> {
     let noun = rounds.noun;
     let total = u64::from(rounds.count).wrapping_mul(rounds.size);
     let tenths = spent.as_nanos().wrapping_mul(10) / u128::from(total.max(1));
