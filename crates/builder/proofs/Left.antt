@@ -17,10 +17,11 @@ use Rattle.selection_rules.specs.Stored.{Stored, stored_in, stored_row}
 use Rattle.selection_rules.specs.Sets.{settled_in}
 use Rattle.selection_rules.specs.Errors.{Path, Error, keys_of, keys_in, error_rows}
 use Rattle.selection_rules.specs.Sets.{path_to, some_row, error_of, listed, errors, keep, build}
+use Rattle.building_rules.proofs.Fits.{fault_keys, keys_few, way_long}
 use Rattle.builder.specs.Filling.{Output, with_set, Room}
 use Rattle.builder.proofs.Puts.{length-put}
-use Rattle.builder.proofs.Outputs.{nothing_more, errors_then, opened_with, closed_with, row_then, fault_keys, length_rows}
-use Rattle.builder.proofs.Bounds.{set_few, keys_few, path_way}
+use Rattle.builder.proofs.Outputs.{nothing_more, errors_then, opened_with, closed_with, row_then, length_rows}
+use Rattle.builder.proofs.Bounds.{set_few}
 
 -- the tables are as long as they were
 pub record AsLong (o b : Output) : Type 0 where
@@ -160,7 +161,7 @@ module _ (m : Meaning) (handed : List SelectionRow) (set₀ : SelectionSet) (aro
       ap (errors m p around) t.is ∙ ap (λ v. listed v (path_to p s) around s (λ inner. errors m (path_to p s) inner t.below) ++ errors m p around t.after) out
       in
       let own : length (keys_in (e ∷ [])) ≡ way above s =
-      length-append (keys_of e) [] ∙ omega (arith, ap length (fault_keys fault (path_to p s) around s), path_way p s, ap (λ n. way n s) even)
+      length-append (keys_of e) [] ∙ omega (arith, ap length (fault_keys fault (path_to p s) around s), way_long p s, ap (λ n. way n s) even)
       in
       let errors_fit : o.filled.errors + 1 ≤ length o.errors = omega (arith, t.many, room.errors_fit) in
       let keys_fit : o.filled.path_keys + length (keys_in (e ∷ [])) ≤ length o.path_keys = omega (arith, t.keys, room.keys_fit) in
@@ -221,7 +222,7 @@ module _ (m : Meaning) (handed : List SelectionRow) (set₀ : SelectionSet) (aro
       ap (errors m p around) t.is ∙ ap (λ v. listed v (path_to p s) around s (λ i. errors m (path_to p s) i t.below) ++ errors m p around t.after) out
       in
       let few = set_few m (path_to p s) inner t.below in
-      let open-keys : length (path_to p s).keys ≡ way above s = path_way p s ∙ ap (λ n. way n s) even in
+      let open-keys : length (path_to p s).keys ≡ way above s = way_long p s ∙ ap (λ n. way n s) even in
       let paths = subst (λ (n : ℕ). length (keys_in es) ≤ forest_keys n t.below) open-keys (keys_few m (path_to p s) inner t.below) in
       let errors_fit : o.filled.errors + length es ≤ length o.errors = omega (arith, t.many, room.errors_fit) in
       let keys_fit : o.filled.path_keys + length (keys_in es) ≤ length o.path_keys = omega (arith, t.keys, room.keys_fit) in

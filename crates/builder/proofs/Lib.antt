@@ -7,3 +7,15 @@ pub mod Roles
 pub mod Rulings
 pub mod Entries
 pub mod Steps
+pub mod Kepts
+pub mod States
+pub mod Spaces
+pub mod Ones
+pub mod Going
+pub mod Judging
+pub mod Sounds
+pub mod Readings
+pub mod Growing
+pub mod Standing
+pub mod Cuts
+pub mod Never

@@ -1,17 +1,14 @@
 -- Laws of the tables that are filled: nothing more, one error more, rows and errors behind others, a row over its set.
-use Rattle.std.proofs.Common.{◌≡◌, ℕ, suc, ◌+◌, ◌<◌, ◌≤◌, List, [], ◌∷◌, ◌++◌, length, get_or, set, Some, None, Option, sym, refl, ap, ◌∙◌, append_assoc, add-zero, add-one, arith, length-append}
+use Rattle.std.proofs.Common.{◌≡◌, ℕ, suc, ◌+◌, ◌<◌, ◌≤◌, List, [], ◌∷◌, ◌++◌, length, get_or, set, Some, None, Option, sym, refl, ap, ◌∙◌, add-zero, add-one, arith, length-append}
 use Rattle.std.proofs.lemmas.List.{append-nil}
 use Rattle.layout.specs.Forest.{Forest, none, row, size, flatten}
 use Rattle.layout.proofs.Tables.{length-flatten}
-use Rattle.document.specs.Rows.{Selection}
 use Rattle.document.specs.Sets.{no_row}
 use Rattle.selection_rules.specs.declared.stored.StoredRow.{StoredRow}
 use Rattle.selection_rules.specs.declared.error.BuildError.{BuildError}
-use Rattle.selection_rules.specs.declared.settling.SelectionFault.{SelectionFault}
-use Rattle.selection_rules.specs.declared.settling.SelectionFault.TheVariants.{UnknownCondition, OnScalar, OnEnum, UnknownField}
 use Rattle.selection_rules.specs.Stored.{Stored, stored_row, stored_of}
-use Rattle.selection_rules.specs.Errors.{Path, Error, keys_of, keys_in, error_row, error_rows}
-use Rattle.selection_rules.specs.Sets.{error_of}
+use Rattle.selection_rules.specs.Errors.{Error, keys_of, keys_in, error_row, error_rows}
+use Rattle.building_rules.proofs.Fits.{keys_join}
 use Rattle.builder.specs.Filling.{put, Output, output, filled_to, with_set}
 use Rattle.builder.specs.Ruling.{maybe}
 use Rattle.builder.proofs.Puts.{put_nil, set-put, put-put, put_row, get_row}
@@ -20,13 +17,6 @@ use Rattle.builder.proofs.Puts.{put_nil, set-put, put-put, put_row, get_row}
 pub same_output : {rows rows' : List StoredRow} {errors errors' : List BuildError} {keys keys' : List ℕ} {n n' k k' q q' : ℕ}
     → rows ≡ rows' → errors ≡ errors' → keys ≡ keys' → n ≡ n' → k ≡ k' → q ≡ q' → output rows errors keys (filled_to n k q) ≡ output rows' errors' keys' (filled_to n' k' q')
 same_output a b c d e f = cc
-
--- the path keys of a selection's error are those of its path
-pub fault_keys : (fault : SelectionFault) (p : Path) (around : ℕ) (s : Selection) → keys_of (error_of fault p around s) ≡ p.keys
-fault_keys UnknownCondition p around s = refl
-fault_keys (OnScalar t) p around s = refl
-fault_keys (OnEnum t) p around s = refl
-fault_keys UnknownField p around s = refl
 
 pub nothing_more : (o : Output) → with_set o none [] ≡ o
 nothing_more o =
@@ -41,11 +31,7 @@ one_error o e low =
     (ap (put o.path_keys o.filled.path_keys) (sym (append-nil (keys_of e))))
     (omega arith) (omega arith) (ap (λ (l : List ℕ). o.filled.path_keys + length l) (sym (append-nil (keys_of e))))
 
--- errors and their keys behind others
-pub keys_joined : (es fs : List Error) → keys_in (es ++ fs) ≡ keys_in es ++ keys_in fs
-keys_joined [] fs = refl
-keys_joined (e ∷ es) fs = ap (λ (l : List ℕ). keys_of e ++ l) (keys_joined es fs) ∙ sym (append_assoc (keys_of e) (keys_in es) (keys_in fs))
-
+-- errors behind others
 pub rows_joined : (q : ℕ) (es fs : List Error) → error_rows q (es ++ fs) ≡ error_rows q es ++ error_rows (q + length (keys_in es)) fs
 rows_joined q [] fs = ap (λ (k : ℕ). error_rows k fs) (omega arith)
 rows_joined q (e ∷ es) fs =
@@ -70,10 +56,10 @@ errors_then o es f fs errors_fit keys_fit =
     same_output
     (ap (λ (l : List StoredRow). put l (n + 0) (flatten stored_row (n + 0) f)) no_rows ∙ ap (λ (i : ℕ). put o.rows i (flatten stored_row i f)) still)
     (put-put o.errors k (error_rows q es) (error_rows (q + length (keys_in es)) fs) (k + length es) (omega arith) errors_fit ∙ ap (put o.errors k) (sym (rows_joined q es fs)))
-    (put-put o.path_keys q (keys_in es) (keys_in fs) (q + length (keys_in es)) refl keys_fit ∙ ap (put o.path_keys q) (sym (keys_joined es fs)))
+    (put-put o.path_keys q (keys_in es) (keys_in fs) (q + length (keys_in es)) refl keys_fit ∙ ap (put o.path_keys q) (sym (keys_join es fs)))
     (omega arith)
     (omega (arith, length-append es fs))
-    (omega (arith, ap length (keys_joined es fs), length-append (keys_in es) (keys_in fs)))
+    (omega (arith, ap length (keys_join es fs), length-append (keys_in es) (keys_in fs)))
 
 -- a row that is opened at the first free place
 abbrev pub opened_with : Output → StoredRow → Output
@@ -99,10 +85,10 @@ row_then o a below after es fs rows_fit errors_fit keys_fit =
     (ap (λ (i : ℕ). put (set (put (set o.rows n (stored_row a 0)) i (flatten stored_row i below)) n (stored_row a (i + size below))) (i + size below) (flatten stored_row (i + size below) after)) (add-one n)
     ∙ put_row o.rows n (stored_row a 0) (stored_row a (suc n + size below)) (flatten stored_row (suc n) below) (flatten stored_row (suc n + size below) after) (suc n + size below) (omega arith) (omega arith) (omega arith))
     (put-put o.errors k (error_rows q es) (error_rows (q + length (keys_in es)) fs) (k + length es) (omega arith) errors_fit ∙ ap (put o.errors k) (sym (rows_joined q es fs)))
-    (put-put o.path_keys q (keys_in es) (keys_in fs) (q + length (keys_in es)) refl keys_fit ∙ ap (put o.path_keys q) (sym (keys_joined es fs)))
+    (put-put o.path_keys q (keys_in es) (keys_in fs) (q + length (keys_in es)) refl keys_fit ∙ ap (put o.path_keys q) (sym (keys_join es fs)))
     (omega arith)
     (omega (arith, length-append es fs))
-    (omega (arith, ap length (keys_joined es fs), length-append (keys_in es) (keys_in fs)))
+    (omega (arith, ap length (keys_join es fs), length-append (keys_in es) (keys_in fs)))
 
 abbrev pub no_stored_row : StoredRow
 no_stored_row = record { selection = no_row; place = 0; set_type = 0 }

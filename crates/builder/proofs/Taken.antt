@@ -1,15 +1,16 @@
 -- The place of a name in a table, as an index tells it, is where the name is taken.
-use Rattle.std.proofs.Common.{◌≡◌, ℕ, zero, suc, ◌<◌, ◌≤◌, Bool, true, false, cond, eqb, ◌≢◌, List, map, length, get_or, take, Some, None, Option, sym, refl, ap, ◌∙◌, subst, ⊎_elim, arith}
+use Rattle.std.proofs.Common.{◌∷◌, ◌≡◌, ℕ, zero, suc, ◌<◌, ◌≤◌, Bool, true, false, cond, eqb, ◌≢◌, List, map, length, get_or, take, Some, None, Option, sym, refl, ap, ◌∙◌, subst, ⊎_elim, arith}
 use Rattle.std.proofs.lemmas.List.{get_or-map, get_or-take, length-take-le, length-map, take_all}
 use Rattle.std.proofs.Math.Logic.{∥∥₁_elim}
 use Rattle.std.proofs.Props.{props}
 use Rattle.std.proofs.lemmas.Bool.{eqb-true, eqb-false, eq-eqb, ne_eqb, cond-true, cond-false, cases_eq}
 use Rattle.ordered_index.specs.Keys.{same_name, name_hash}
 use Rattle.ordered_index.specs.Sound.{keys_of, Sound, Located, Only, Absent}
-use Rattle.building_rules.specs.Definitions.{taken_at}
+use Rattle.building_rules.specs.Definitions.{Taken, taken_at}
 use Rattle.stored_tables.specs.declared.definition.StoredDefinition.{StoredDefinition}
 use Rattle.stored_tables.specs.Layout.{name_of}
-use Rattle.builder.specs.Holding.{no_stored_definition, taken_by}
+use Rattle.stored_tables.specs.Verdict.{no_stored_definition}
+use Rattle.builder.specs.Holding.{taken_by}
 
 module _ (entries : List StoredDefinition) (count : ℕ) (fits : count ≤ length entries) where
   keys_long : length (keys_of name_of count entries) ≡ count
@@ -83,3 +84,17 @@ module _ (definitions : List StoredDefinition) (slots : List ℕ) (name : ℕ) (
   pub missing_all : r ≡ None → None ≡ taken_at name (taken_by definitions (length definitions))
   missing_all is =
       ∥∥₁_elim sound (Prim.hlevel props) (λ s. missing definitions (length definitions) (omega arith) name (subst (Located same_name (keys_of name_of (length definitions) definitions) name) is (of_all s)))
+
+-- the names that the definitions in use take are those of the table
+in_use_same : (entries : List StoredDefinition) (n m : ℕ) → m ≤ n → taken_by (take n entries) m ≡ taken_by entries m
+in_use_same entries n zero low = refl
+in_use_same entries n (suc m) low =
+    let here = get_or-take n entries m no_stored_definition (omega arith) in
+    ap (λ (d : StoredDefinition). record { name = d.row.name; location = d.row.name_location } ∷ taken_by (take n entries) m) here
+    ∙ ap (λ (l : List Taken). record { name = (get_or entries m no_stored_definition).row.name; location = (get_or entries m no_stored_definition).row.name_location } ∷ l) (in_use_same entries n m (omega arith))
+
+pub taken_in_use : (entries : List StoredDefinition) (n : ℕ) (l : List StoredDefinition) → n ≤ length entries → l ≡ take n entries → taken_by l (length l) ≡ taken_by entries n
+taken_in_use entries n l fits is =
+    ap (λ (x : List StoredDefinition). taken_by x (length x)) is
+    ∙ ap (taken_by (take n entries)) (length-take-le n entries fits)
+    ∙ in_use_same entries n n (omega arith)

@@ -6,13 +6,13 @@ use Rattle.ordered_index.specs.Keys.{same_name, name_hash}
 use Rattle.ordered_index.specs.Probing.{probe_for}
 use Rattle.ordered_index.specs.Entering.{slots_after}
 use Rattle.schema.specs.Meaning.{Meaning}
-use Rattle.document.specs.Sets.{no_definition_row}
 use Rattle.selection_rules.specs.declared.stored.StoredRow.{StoredRow}
 use Rattle.selection_rules.specs.declared.error.BuildError.{BuildError}
 use Rattle.selection_rules.specs.Errors.{Error, error_rows, keys_in}
 use Rattle.building_rules.specs.Definitions.{Accepted, Kept, Taken, State, step, kept_from, errors_from, state_after}
 use Rattle.stored_tables.specs.declared.definition.StoredDefinition.{StoredDefinition}
 use Rattle.building_rules.specs.Bounds.{rows_kept}
+use Rattle.stored_tables.specs.Verdict.{no_stored_definition}
 use Rattle.stored_tables.specs.Layout.{name_of, rows_of, operations_of, fragments_of, anonymous_of}
 use Rattle.builder.specs.declared.progress.Progress.{Progress}
 use Rattle.builder.specs.Filling.{put, Output, output, filled_to}
@@ -59,9 +59,6 @@ held p operations operation-slots fragments fragment-slots rows errors path_keys
       anonymous = p.anonymous;
       multiple = p.multiple_anonymous;
     }
-
-abbrev pub no_stored_definition : StoredDefinition
-no_stored_definition = record { row = no_definition_row; set_type = 0 }
 
 -- the names that the first n definitions of a table take, the latest first
 abbrev pub taken_by : List StoredDefinition → ℕ → List Taken

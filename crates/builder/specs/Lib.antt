@@ -6,3 +6,9 @@ pub mod Naming
 pub mod Ruling
 pub mod Storing
 pub mod Space
+pub mod Taking
+pub mod Adding
+pub mod Lent
+pub mod Beginning
+pub mod Reading
+pub mod Certificate

@@ -1,4 +1,15 @@
 // Taking in the definitions of a document, in their order: each is ruled on, and built and kept where it is to be stored.
+ghost use Rattle.std.specs.Prelude.{◌≡◌, false, List};
+ghost use Rattle.layout.specs.Forest.{Forest};
+ghost use Rattle.document.specs.Rows.{Selection, head_of, head_broken};
+ghost use Rattle.document.specs.Document.{Definition, IsDocument};
+ghost use Rattle.document.specs.Sets.{Holds};
+ghost use Rattle.building_rules.specs.Definitions.{accepted_from};
+ghost use Rattle.builder.specs.Holding.{table, state, held, one_in, taken_in};
+ghost use Rattle.builder.specs.Ruling.{Ruled};
+ghost use Rattle.builder.specs.Storing.{Indexed};
+ghost use Rattle.builder.specs.Taking.{handed_in, Ready, AllReady};
+
 use crate::named::{Named, Stored};
 use crate::path::OpenPath;
 use crate::progress::Progress;
@@ -21,7 +32,12 @@ fn rule_on<'t, S: Schema>(
     operation_slots: &'t [u32],
     fragments: &'t [StoredDefinition],
     fragment_slots: &'t [u32],
-) -> Ruling {
+) -> Ruling
+    requires whole { head_broken (head_of row.now) ≡ false }
+    requires operations { Indexed (table operations.now operation_slots.now progress.operations) }
+    requires fragments { Indexed (table fragments.now fragment_slots.now progress.fragments) }
+    ensures { Ruled (S.Schema.meaning schema.now) (state progress.anonymous progress.multiple_anonymous operations.now progress.operations fragments.now progress.fragments) (head_of row.now) strict result }
+{
     let stored = Stored {
         operations: Named {
             definitions: in_use(operations, progress.operations),
@@ -52,7 +68,12 @@ fn take_definition<S: Schema>(
     rows: &mut [StoredRow],
     errors: &mut [BuildError],
     path_keys: &mut [u32],
-) -> Progress {
+) -> Progress
+    requires ready { (f : Forest Selection) × Ready document.now.rows.now set (handed_in (head_of row.now) f strict) (held progress operations.old operation_slots.old fragments.old fragment_slots.old rows.old errors.old path_keys.old) }
+    ensures taken { (f : Forest Selection) → Holds document.now.rows.now set f → held result operations.new operation_slots.new fragments.new fragment_slots.new rows.new errors.new path_keys.new ≡ one_in (S.Schema.meaning schema.now) (held progress operations.old operation_slots.old fragments.old fragment_slots.old rows.old errors.old path_keys.old) (handed_in (head_of row.now) f strict) }
+    ensures operations { Indexed (table operations.new operation_slots.new result.operations) }
+    ensures fragments { Indexed (table fragments.new fragment_slots.new result.fragments) }
+{
     let ruling = rule_on(
         schema,
         row,
@@ -82,8 +103,7 @@ fn take_definition<S: Schema>(
         path_keys,
         next.filled,
     );
-    let definition =
-        StoredDefinition::new(row, first as u32, next.filled.rows as u32, set_type);
+    let definition = StoredDefinition::new(row, first as u32, next.filled.rows as u32, set_type);
     keep_definition(
         definition,
         next,
@@ -107,7 +127,12 @@ pub fn take_document<S: Schema>(
     rows: &mut [StoredRow],
     errors: &mut [BuildError],
     path_keys: &mut [u32],
-) -> Progress {
+) -> Progress
+    requires ready { (d : List Definition) × AllReady document.now.definitions.now document.now.rows.now strict d (held progress operations.old operation_slots.old fragments.old fragment_slots.old rows.old errors.old path_keys.old) }
+    ensures taken { (d : List Definition) → IsDocument document.now.definitions.now document.now.rows.now d → held result operations.new operation_slots.new fragments.new fragment_slots.new rows.new errors.new path_keys.new ≡ taken_in (S.Schema.meaning schema.now) (held progress operations.old operation_slots.old fragments.old fragment_slots.old rows.old errors.old path_keys.old) (accepted_from strict d) }
+    ensures operations { Indexed (table operations.new operation_slots.new result.operations) }
+    ensures fragments { Indexed (table fragments.new fragment_slots.new result.fragments) }
+{
     let mut next = progress;
     for (place, row) in document.definitions.iter().enumerate() {
         next = take_definition(

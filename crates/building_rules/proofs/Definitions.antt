@@ -24,7 +24,7 @@ Local m d fragment = (m.known d.head.condition ≡ true) × (errors m (start_pat
 Local m d type_system = d.strict ≡ false
 
 -- the state after a definition that is stored, or is of the type system
-abbrev advance : State → Accepted → Role → State
+abbrev pub advance : State → Accepted → Role → State
 advance s d w =
     record {
       anonymous = cond (anonymous_role w) (Some d.head.location) s.anonymous;

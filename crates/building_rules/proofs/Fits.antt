@@ -35,7 +35,8 @@ way_as p s false false = omega arith
 pub way_long : (p : Path) (s : Selection) → length (path_to p s).keys ≡ way (length p.keys) s
 way_long p s = way_as p s (is_field s) (is_spread s)
 
-fault_keys : (fault : SelectionFault) (p : Path) (around : ℕ) (s : Selection) → keys_of (error_of fault p around s) ≡ p.keys
+-- the path keys of an error are those of its path
+pub fault_keys : (fault : SelectionFault) (p : Path) (around : ℕ) (s : Selection) → keys_of (error_of fault p around s) ≡ p.keys
 fault_keys UnknownCondition p around s = refl
 fault_keys (OnScalar type-name) p around s = refl
 fault_keys (OnEnum type-name) p around s = refl

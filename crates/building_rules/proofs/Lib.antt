@@ -5,8 +5,12 @@ pub mod Rows
 pub mod Keeping
 pub mod Names
 pub mod Definitions
+pub mod Steps
+pub mod Read
+pub mod Chosen
 pub mod Joined
 pub mod GoesOn
 pub mod Wholes
 pub mod Dangling
 pub mod Fits
+pub mod Storable

@@ -1,8 +1,9 @@
 -- The definitions that the contracts of the crate cite, in the order in which they are needed.
 pub mod Definitions
 pub mod Calls
-pub mod Storable
 pub mod Rules
+pub mod Storable
+pub mod Chosen
 pub mod Statement
 pub mod Runs
 pub mod Whole

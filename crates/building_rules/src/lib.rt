@@ -9,6 +9,8 @@ ghost use Rattle.building_rules.specs.Runs.{RunsGoOn};
 ghost use Rattle.building_rules.specs.Bounds.{BuildsFit, NeedsOfDocuments};
 ghost use Rattle.building_rules.specs.Needed.{ClosedIsNeeded, SomeAreValid};
 ghost use Rattle.building_rules.specs.Calls.{DocumentsAreRead, HistoriesGrow};
+ghost use Rattle.building_rules.specs.Storable.{KeptIsStorable};
+ghost use Rattle.building_rules.specs.Chosen.{KeptAreChosen};
 
 use schema::Schema;
 
@@ -58,4 +60,16 @@ pub fn documents_are_read()
 /// The accepted definitions of a history with one call more are those of the history, and then those of the call.
 pub fn histories_grow()
     ensures { HistoriesGrow }
+{}
+
+/// What is kept of definitions that keep the rules of documents can stand in tables: it keeps the rules of what is stored,
+/// and no name is kept twice.
+pub fn kept_definitions_can_be_stored()
+    ensures { KeptIsStorable }
+{}
+
+/// Which definitions are kept, told by those that are kept before them: the operations and fragments that none of these
+/// stands against, and whose root or condition the schema knows.
+pub fn kept_definitions_are_chosen()
+    ensures { KeptAreChosen }
 {}

@@ -6,6 +6,8 @@ use Rattle.layout.specs.declared.row.RowView.{RowView}
 use Rattle.layout.specs.Places.{fault_in}
 use Rattle.document.specs.Rows.{is_operation, is_fragment, named_operation, head_unnamed, head_broken}
 use Rattle.document.specs.Sets.{no_definition_row}
+use Rattle.document.specs.declared.kinds.DefinitionKind.{DefinitionKind}
+use Rattle.document.specs.declared.kinds.DefinitionKind.TheVariants.{Operation, Fragment, TypeSystem}
 use Rattle.selection_rules.specs.declared.stored.StoredRow.{StoredRow}
 use Rattle.selection_rules.specs.Stored.{stored_view}
 use Rattle.stored_tables.specs.declared.definition.StoredDefinition.{StoredDefinition}
@@ -39,6 +41,12 @@ fragment_whole d =
     is_fragment (stored_head d)
     && (not (head_unnamed (stored_head d)) && (not (head_broken (stored_head d)) && (d.set_type == d.row.condition)))
 
+-- whether a table of definitions of this kind may hold the definition; none is of the type system
+abbrev pub whole_as : DefinitionKind → StoredDefinition → Bool
+whole_as Operation = operation_whole
+whole_as Fragment = fragment_whole
+whole_as TypeSystem = λ d. false
+
 -- a range is out of place that begins before `start`, ends before it begins, or ends behind the rows
 abbrev pub misplaced : ℕ → ℕ → StoredDefinition → Bool
 misplaced start rows d = nat_lt d.row.first start || (nat_lt d.row.end d.row.first || nat_lt rows d.row.end)
@@ -71,14 +79,26 @@ holds row d = nat_le d.row.first row && nat_lt row d.row.end
 abbrev pub unfit : List RowView → ℕ → StoredDefinition → Bool
 unfit views row d = holds row d && is_some (fault_in views d.row.first d.row.end 32 row)
 
+-- whether a row stands in none of the ranges, or in several
+abbrev pub stray : List StoredDefinition → ℕ → Bool
+stray ds row = not (count_by (holds row) ds == 1)
+
+-- whether a row does not fit a range in which it stands
+abbrev pub unfit_in : List RowView → List StoredDefinition → ℕ → Bool
+unfit_in views ds row = list_any (unfit views row) ds
+
 -- each stored row is in exactly one range, and fits there; else it breaks the layout
 abbrev pub broken_row : List RowView → List StoredDefinition → ℕ → Bool
-broken_row views ds row = not (count_by (holds row) ds == 1) || list_any (unfit views row) ds
+broken_row views ds row = stray ds row || unfit_in views ds row
+
+-- the anonymous operation, if there is one
+abbrev pub alone : Option StoredDefinition → List StoredDefinition
+alone None = []
+alone (Some d) = d ∷ []
 
 -- all definitions that are stored
 abbrev pub all_stored : Option StoredDefinition → List StoredDefinition → List StoredDefinition → List StoredDefinition
-all_stored None operations fragments = operations ++ fragments
-all_stored (Some d) operations fragments = d ∷ (operations ++ fragments)
+all_stored anonymous operations fragments = operations ++ (fragments ++ alone anonymous)
 
 -- a fault is told with the place plus 1
 abbrev pub told_in : (ℕ → StoredFault) → Option ℕ → Option StoredFault
@@ -89,8 +109,8 @@ told_in told (Some i) = Some (told (i + 1))
 abbrev pub stored_fault : Option StoredDefinition → List StoredDefinition → List StoredDefinition → List StoredRow → Option StoredFault
 stored_fault anonymous operations fragments rows =
     or_else (cond (anonymous_broken (length rows) anonymous) (Some InAnonymous) None)
-    (or_else (told_in InOperations (first_place (broken_definition operation_whole (length rows) operations) 0 (length operations)))
-    (or_else (told_in InFragments (first_place (broken_definition fragment_whole (length rows) fragments) 0 (length fragments)))
+    (or_else (told_in InOperations (first_place (broken_definition (whole_as Operation) (length rows) operations) 0 (length operations)))
+    (or_else (told_in InFragments (first_place (broken_definition (whole_as Fragment) (length rows) fragments) 0 (length fragments)))
     (told_in InRows (first_place (broken_row (map stored_view rows) (all_stored anonymous operations fragments)) 0 (length rows)))))
 
 -- the place, plus 1, that a fault tells, or 0

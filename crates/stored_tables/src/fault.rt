@@ -10,16 +10,16 @@ pub enum StoredFault {
     #[error("the stored anonymous operation breaks the layout")]
     InAnonymous,
     #[error("stored operation {0} breaks the layout")]
-    InOperations(u32),
+    InOperations(usize),
     #[error("stored fragment {0} breaks the layout")]
-    InFragments(u32),
+    InFragments(usize),
     #[error("stored row {0} breaks the layout")]
-    InRows(u32),
+    InRows(usize),
 }
 
 impl StoredFault {
     /// The place, plus 1, of what is at fault in its table; 0 for the anonymous operation, which stands in none.
-    pub fn row(self) -> u32
+    pub fn row(self) -> usize
         ensures { result ≡ row_of self }
     {
         match self {

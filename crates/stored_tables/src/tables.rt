@@ -4,6 +4,7 @@ use selection_rules::{BuildError, StoredRow};
 
 /// The tables of one builder: stored operations and fragments, each with the slots of an index of their names, stored
 /// rows, errors, and the keys of the errors' paths. Each is filled from the front.
+#[derive(Drop)]
 pub struct Tables<'t> {
     pub operations: &'t mut [StoredDefinition],
     pub operation_slots: &'t mut [u32],

@@ -3,8 +3,9 @@ use Rattle.std.proofs.Common.{◌≡◌, ℕ, ◌+◌, List, length, set, sym, r
 use Rattle.document.specs.Rows.{Selection, selection_of}
 use Rattle.selection_rules.specs.Errors.{Path, Error, keys_of}
 use Rattle.selection_rules.specs.Sets.{error_of}
+use Rattle.building_rules.proofs.Fits.{fault_keys}
 use Rattle.builder.specs.Filling.{put, path_of, output}
-use Rattle.builder.proofs.Outputs.{same_output, fault_keys, one_error}
+use Rattle.builder.proofs.Outputs.{same_output, one_error}
 use Rattle.builder.proofs.set.list_fault.Goals as goal
 
 pub returns : goal.returns

@@ -1,0 +1,115 @@
+-- Where there is space for what definitions can need, there is room for what they come to, and space for those after them.
+use Rattle.std.proofs.Common.{◌≡◌, ℕ, ◌+◌, ◌≤◌, Bool, true, false, cond, not, ◌&&◌, eqb, List, [], ◌∷◌, length, count_by, ap, arith, length-append}
+use Rattle.std.proofs.lemmas.List.{append-nil}
+use Rattle.std.proofs.lemmas.List.Sums.{sum_by-cons}
+use Rattle.layout.specs.Forest.{size}
+use Rattle.document.specs.Rows.{Head, is_operation, is_fragment, named_operation}
+use Rattle.schema.specs.Meaning.{Meaning}
+use Rattle.selection_rules.specs.Errors.{Error, keys_in, error_rows}
+use Rattle.building_rules.specs.Definitions.{Accepted, Kept, Role, anonymous_operation, fragment, type_system, role_of, step, errors_from, kept_from}
+use Rattle.building_rules.specs.Definitions as define
+use Rattle.building_rules.specs.Rules.{named_role, fragment_role}
+use Rattle.building_rules.specs.Bounds.{needs_for, rows_kept}
+use Rattle.building_rules.proofs.Fits.{builds_fit}
+use Rattle.stored_tables.specs.Layout.{laid_out, rows_of, those_of, operations_of, fragments_of}
+use Rattle.builder.specs.Holding.{Held, state_of, one_in}
+use Rattle.builder.specs.Space.{Space}
+use Rattle.builder.proofs.Puts.{length-put}
+use Rattle.builder.proofs.Outputs.{length_rows}
+use Rattle.builder.proofs.Kepts.{Fit, Room, many_rows, entered_count, entered_long}
+
+-- no more definitions stand in a table than there are of its kind
+as_many : (test : Role → Bool) (p : Head → Bool) → ((h : Head) → cond (test (role_of h)) 1 0 ≤ cond (p h) 1 0) → (n : ℕ) (ks : List Kept) → length (those_of test n ks) ≤ count_by (λ k. p k.head) ks
+as_many test p low n [] = omega arith
+as_many test p low n (k ∷ ks) =
+    let rest = as_many test p low (n + size k.rows) ks in
+    let own = low k.head in
+    let sums = sum_by-cons (λ x. cond (p x.head) 1 0) k ks in
+    let one = one_more (test (role_of k.head)) in
+    omega (arith, one)
+  where
+    one_more : (b : Bool) → length (cond b (laid_out n k ∷ those_of test (n + size k.rows) ks) (those_of test (n + size k.rows) ks)) ≡ cond b 1 0 + length (those_of test (n + size k.rows) ks)
+    one_more true = omega arith
+    one_more false = omega arith
+
+named_of : (a b c : Bool) → cond (named_role (cond a (cond b anonymous_operation define.named_operation) (cond c fragment type_system))) 1 0 ≤ cond (a && not b) 1 0
+named_of true true c = omega arith
+named_of true false c = omega arith
+named_of false b true = omega arith
+named_of false b false = omega arith
+
+fragment_of : (a b c : Bool) → cond (fragment_role (cond a (cond b anonymous_operation define.named_operation) (cond c fragment type_system))) 1 0 ≤ cond c 1 0
+fragment_of true true c = omega arith
+fragment_of true false c = omega arith
+fragment_of false b true = omega arith
+fragment_of false b false = omega arith
+
+pub few_operations : (n : ℕ) (ks : List Kept) → length (operations_of n ks) ≤ count_by (λ k. named_operation k.head) ks
+few_operations n ks = as_many named_role named_operation (λ h. named_of (is_operation h) (eqb h.name 0) (is_fragment h)) n ks
+
+pub few_fragments : (n : ℕ) (ks : List Kept) → length (fragments_of n ks) ≤ count_by (λ k. is_fragment k.head) ks
+few_fragments n ks = as_many fragment_role is_fragment (λ h. fragment_of (is_operation h) (eqb h.name 0) (is_fragment h)) n ks
+
+module _ (m : Meaning) (h : Held) where
+  -- all that is needed is there
+  pub roomy : (ds : List Accepted) → Space h (needs_for ds) → Room h (kept_from m (state_of h) ds)
+  roomy ds space =
+      let n = h.output.filled.rows in
+      let ks = kept_from m (state_of h) ds in
+      let fits = builds_fit m (state_of h) ds in
+      record {
+        operations = omega (arith, few_operations n ks, fits.operations, space.operations_fit);
+        fragments = omega (arith, few_fragments n ks, fits.fragments, space.fragments_fit);
+      }
+
+  pub fitting : (ds : List Accepted) → Space h (needs_for ds) → Fit h (kept_from m (state_of h) ds) (errors_from m (state_of h) ds)
+  fitting ds space =
+      let fits = builds_fit m (state_of h) ds in
+      record {
+        rows = omega (arith, fits.rows, space.rows_fit);
+        errors = omega (arith, fits.errors, space.errors_fit);
+        keys = omega (arith, fits.path_keys, space.keys_fit);
+      }
+
+  -- the definitions after one find space again
+  pub space_left : (d : Accepted) (ds : List Accepted) → Space h (needs_for (d ∷ ds)) → Space (one_in m h d) (needs_for ds)
+  space_left d ds space =
+      let s = state_of h in
+      let n = h.output.filled.rows in
+      let k = h.output.filled.errors in
+      let q = h.output.filled.path_keys in
+      let o = step m s d in
+      let es = o.errors in
+      let fits = builds_fit m s (d ∷ []) in
+      let kept-same = ap (λ (ks : List Kept). count_by (λ k. named_operation k.head) ks) (append-nil o.kept) in
+      let fragments-same = ap (λ (ks : List Kept). count_by (λ k. is_fragment k.head) ks) (append-nil o.kept) in
+      let rows-same = ap rows_kept (append-nil o.kept) in
+      let errors-same = length-append o.errors [] in
+      let keys-same = ap (λ (l : List Error). length (keys_in l)) (append-nil o.errors) in
+      let some = sum_by-cons (λ x. cond (named_operation x.head) 1 0) d ds in
+      let one = sum_by-cons (λ x. cond (named_operation x.head) 1 0) d [] in
+      let some-fragments = sum_by-cons (λ x. cond (is_fragment x.head) 1 0) d ds in
+      let one-fragment = sum_by-cons (λ x. cond (is_fragment x.head) 1 0) d [] in
+      let many = many_rows n o.kept in
+      let listed = length_rows q es in
+      let rows-long = length-put h.output.rows n (rows_of n o.kept) (omega (arith, space.rows_fit, fits.rows)) in
+      let errors-long = length-put h.output.errors k (error_rows q es) (omega (arith, space.errors_fit, fits.errors)) in
+      let keys-long = length-put h.output.path_keys q (keys_in es) (omega (arith, space.keys_fit, fits.path_keys)) in
+      let a = few_operations n o.kept in
+      let b = few_fragments n o.kept in
+      let c = entered_count h.operations (operations_of n o.kept) in
+      let e = entered_count h.fragments (fragments_of n o.kept) in
+      let f = entered_long h.operations (operations_of n o.kept) in
+      let g = entered_long h.fragments (fragments_of n o.kept) in
+      record {
+        operations_fit = omega (arith, space.operations_fit, fits.operations);
+        operations_few = omega (arith, space.operations_few, fits.operations);
+        fragments_fit = omega (arith, space.fragments_fit, fits.fragments);
+        fragments_few = omega (arith, space.fragments_few, fits.fragments);
+        rows_fit = omega (arith, space.rows_fit, fits.rows);
+        rows_few = omega (arith, space.rows_few, fits.rows);
+        errors_fit = omega (arith, space.errors_fit, fits.errors);
+        errors_few = omega (arith, space.errors_few, fits.errors);
+        keys_fit = omega (arith, space.keys_fit, fits.path_keys);
+        keys_few = omega (arith, space.keys_few, fits.path_keys);
+      }

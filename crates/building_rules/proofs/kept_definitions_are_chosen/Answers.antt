@@ -1,0 +1,5 @@
+use Rattle.building_rules.proofs.Chosen.{kept_are_chosen}
+use Rattle.building_rules.proofs.kept_definitions_are_chosen.Goals as goal
+
+pub returns : goal.returns
+returns c = kept_are_chosen
