@@ -1,4 +1,5 @@
-// Reads schemas, questions to them and documents from the standard input, and prints the answers and the outlines.
+// Reads schemas, questions to them and documents from the standard input, and prints the answers, the outlines, and what is
+// built of the documents.
 #![tactic(auto)]
 
 use printout::printout;

@@ -9,21 +9,27 @@ use std::iter;
 use text_input::Counted;
 
 impl<'n, 'a> Printer<'n, 'a> {
-    /// Adds the documents whose rows were all read.
-    pub fn documents(&mut self, documents: &[DocumentText]) -> Result<(), AllocError> {
-        for (number, text) in (1..=u64::MAX).zip(documents.iter()) {
-            if text.is_complete() {
-                let definitions = Counted(u64::from(text.head.definitions), "definition");
-                let rows = Counted(u64::from(text.head.rows), "row");
-                self.line(format_args!("Document no. {number}: {definitions}, {rows}"))?;
-                self.document(&text.handed())?;
-            }
+    /// Adds the documents, and that they are not built, if there are any.
+    pub fn not_built(&mut self, documents: &[DocumentText]) -> Result<(), AllocError> {
+        if documents.is_empty() {
+            return Ok(());
         }
-        Ok(())
+        for (number, text) in (1..=u64::MAX).zip(documents.iter()) {
+            self.document(number, text)?;
+        }
+        self.line("Nothing is built, since the schema is refused.")
+    }
+
+    /// Adds a document: how many rows were read, and what they are.
+    pub fn document(&mut self, number: u64, text: &DocumentText) -> Result<(), AllocError> {
+        let definitions = Counted(u64::from(text.head.definitions), "definition");
+        let rows = Counted(u64::from(text.head.rows), "row");
+        self.line(format_args!("Document no. {number}: {definitions}, {rows}"))?;
+        self.outline(&text.handed())
     }
 
     /// Adds the outline of the document and what building it can need, or why it is refused.
-    fn document(&mut self, document: &Document<'_>) -> Result<(), AllocError> {
+    fn outline(&mut self, document: &Document<'_>) -> Result<(), AllocError> {
         match document.needs() {
             Err(fault) => self.line(Refused::Document(fault)),
             Ok(needs) => {

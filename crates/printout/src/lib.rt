@@ -1,14 +1,19 @@
-// The printout of a text: what was read of each schema, the answer to each question, and each document, in words.
+// The printout of a text: what was read of each schema, the answer to each question, each document, and what is built of
+// the documents, in words.
 #![tactic(auto)]
 
 mod answers;
+mod building;
 mod documents;
+mod errors;
 mod headings;
 mod outlines;
 mod printer;
 mod refusals;
 mod sections;
 mod shown;
+mod tables;
+mod typed;
 mod whole;
 
 pub use whole::printout;

@@ -5,7 +5,7 @@ use schema::OperationType;
 use std::fmt;
 
 /// The word of the operation type with this number. A document that was checked has no other number.
-fn operation_word(operation_type: u32) -> &'static str {
+pub fn operation_word(operation_type: u32) -> &'static str {
     match OperationType::try_from(operation_type) {
         Ok(OperationType::Query) => "query",
         Ok(OperationType::Mutation) => "mutation",

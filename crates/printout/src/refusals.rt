@@ -1,14 +1,16 @@
-// Why the rows of a schema or of a document are refused, in words and in numbers.
+// Why the rows of a schema or of a document, or a call of the builder, are refused, in words and in numbers.
+use builder::BuilderFault;
 use document::DocumentFault;
 use refusal::Refusal;
 use std::fmt;
 use table_schema::SchemaFault;
 
-/// A refused schema or document.
+/// A refused schema or document, or a document that a builder refuses.
 #[derive(Clone, Copy)]
 pub enum Refused {
     Schema(SchemaFault),
     Document(DocumentFault),
+    Builder(BuilderFault),
 }
 
 impl fmt::Display for Refused {
@@ -20,6 +22,10 @@ impl fmt::Display for Refused {
             }
             Refused::Document(fault) => {
                 write!(f, "The document is refused: {fault}")?;
+                fault.into()
+            }
+            Refused::Builder(fault) => {
+                write!(f, "The builder refuses it: {fault}")?;
                 fault.into()
             }
         };

@@ -59,7 +59,7 @@ impl DocumentText {
     }
 
     /// Whether all rows were read that the first line counts.
-    pub fn is_complete(&self) -> bool {
+    fn is_complete(&self) -> bool {
         self.definitions.len() == self.head.definitions as usize
             && self.rows.len() == self.head.rows as usize
     }
@@ -70,7 +70,7 @@ impl DocumentText {
 pub struct Section {
     pub schema: SchemaChoice<TableText>,
     pub questions: Vec<Question>,
-    pub documents: Vec<DocumentText>,
+    documents: Vec<DocumentText>,
 }
 
 impl Section {
@@ -96,6 +96,14 @@ impl Section {
         match &self.schema {
             SchemaChoice::Open => true,
             SchemaChoice::Table(table) => table.is_complete(),
+        }
+    }
+
+    /// The documents whose rows were all read: only of the last one can some be missing.
+    pub fn complete_documents(&self) -> &[DocumentText] {
+        match self.documents.as_slice().split_last() {
+            Some((last, before)) if !last.is_complete() => before,
+            _ => self.documents.as_slice(),
         }
     }
 

@@ -9,8 +9,8 @@ use std::alloc::{AllocError, Global};
 use table_schema::{MakeFault, SchemaFault, schema_with_meta_fields};
 use text_input::{Counted, LineReader, SchemaChoice};
 
-/// The printout of the text: each schema with the answers to its questions and with its documents, and at the end what
-/// is wrong with the text, if anything is. Where something is, the rest of the text is not read.
+/// The printout of the text: each schema with the answers to its questions, its documents and what is built of them, and
+/// at the end what is wrong with the text, if anything is. Where something is, the rest of the text is not read.
 pub fn printout(heap: Global, input: &str) -> Result<String, AllocError> {
     let mut reading = Reading::new(heap, LineReader::new(heap)?);
     reading.read(heap, input)?;
@@ -34,13 +34,12 @@ impl<'n, 'a> Printer<'n, 'a> {
         }
     }
 
-    /// Adds a section: the heading, the answers or the refusal, and the documents.
+    /// Adds a section: the heading, and what comes of the schema.
     fn section(&mut self, number: u64, section: &Section) -> Result<(), AllocError> {
-        let questions = section.questions.as_slice();
         match &section.schema {
             SchemaChoice::Open => {
                 self.line(format_args!("Schema {number}: the open schema"))?;
-                self.answers(&OpenSchema, questions)?;
+                self.accepted(&OpenSchema, section)?;
             }
             SchemaChoice::Table(table) => {
                 let heading = Shown {
@@ -48,23 +47,31 @@ impl<'n, 'a> Printer<'n, 'a> {
                     value: table,
                 };
                 self.line(format_args!("Schema {number}: {heading}"))?;
-                self.table(table, questions)?;
+                self.table(table, section)?;
             }
         }
-        self.documents(section.documents.as_slice())?;
         self.line("")
     }
 
-    /// Adds what a table answers, or why its rows are refused.
-    fn table(&mut self, table: &TableText, questions: &[Question]) -> Result<(), AllocError> {
+    /// Adds what comes of a table, or why its rows are refused.
+    fn table(&mut self, table: &TableText, section: &Section) -> Result<(), AllocError> {
         match schema_with_meta_fields(self.heap, &table.rows()) {
-            Ok(schema) => self.answers(&schema, questions),
-            Err(MakeFault::Rows(fault)) => self.refusal(fault, questions.len()),
+            Ok(schema) => self.accepted(&schema, section),
+            Err(MakeFault::Rows(fault)) => {
+                self.refusal(fault, section.questions.len())?;
+                self.not_built(section.complete_documents())
+            }
             Err(MakeFault::NoMemory) => Err(AllocError),
         }
     }
 
-    /// Adds each question with what the schema answers to it, whichever schema it is.
+    /// Adds what a schema answers, and the documents as they are built over it, whichever schema it is.
+    fn accepted<S: Schema>(&mut self, schema: &S, section: &Section) -> Result<(), AllocError> {
+        self.answers(schema, section.questions.as_slice())?;
+        self.building(schema, section.complete_documents())
+    }
+
+    /// Adds each question with what the schema answers to it.
     fn answers<S: Schema>(&mut self, schema: &S, questions: &[Question]) -> Result<(), AllocError> {
         for question in questions {
             self.line(Answered {

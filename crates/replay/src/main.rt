@@ -1,32 +1,24 @@
-// Reads test cases in their text form from the standard input, and prints for each the first refusal of its schema or
-// of its documents, if there is one.
+// Reads test cases in their text form from the standard input, builds the documents of each over its schema, and prints
+// what is refused, listed and stored.
 //
-// `words` takes the text apart, `parts` says what a case is made of, `reading` reads it, and `verdict` judges it.
+// `words` takes the text apart, `parts` says what a case is made of, and `reading` reads it; `tables` makes the tables
+// that a builder fills, `building` builds, and `lines` and `listing` write what came of it.
 #![tactic(auto)]
 
+mod building;
+mod lines;
+mod listing;
 mod parts;
 mod reading;
-mod verdict;
+mod tables;
 mod words;
 
+use building::print_case;
 use parts::Case;
 use reading::{Part, ReadFault};
 use std::io;
 use std::io::BufReader;
-use verdict::check_case;
 use words::Words;
-
-fn print_case(rt: &HostRuntime, case: &Case) -> io::Result<()> {
-    let id = case.id;
-    println!(rt; "case {id}")?;
-    let Err(refusal) = check_case(rt.alloc(), case) else {
-        return Ok(());
-    };
-    let number = refusal.reason.number();
-    let layer = refusal.layer.number();
-    let row = refusal.row;
-    println!(rt; "refused {number} {layer} {row}")
-}
 
 // Prints every case up to the end of the text, or up to the first number that is missing or too large.
 fn replay(rt: &HostRuntime, text: &str) -> anyhow::Result<()> {

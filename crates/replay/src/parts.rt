@@ -1,6 +1,6 @@
 // What a test case is made of.
-use document::{DefinitionRow, SelectionRow};
-use table_schema::{FieldRow, RootTypes, TypeRow};
+use document::{DefinitionRow, Document, SelectionRow};
+use table_schema::{FieldRow, RootTypes, SchemaRows, TypeRow};
 
 /// A test case: a schema, and the sides that are built over it, two where they are to be compared.
 #[derive(Drop)]
@@ -27,6 +27,17 @@ pub struct TablePart {
     pub roots: RootTypes,
 }
 
+impl TablePart {
+    /// All rows, lent.
+    pub fn rows(&self) -> SchemaRows<'_> {
+        SchemaRows {
+            types: self.types.as_slice(),
+            fields: self.fields.as_slice(),
+            roots: self.roots,
+        }
+    }
+}
+
 /// A side: the lengths of its tables, where they are not the full limits, and the documents that are added.
 #[derive(Drop)]
 pub struct Side {
@@ -50,4 +61,14 @@ pub struct DocumentPart {
     pub is_strict: bool,
     pub definitions: Vec<DefinitionRow>,
     pub rows: Vec<SelectionRow>,
+}
+
+impl DocumentPart {
+    /// All rows, lent.
+    pub fn handed(&self) -> Document<'_> {
+        Document {
+            definitions: self.definitions.as_slice(),
+            rows: self.rows.as_slice(),
+        }
+    }
 }

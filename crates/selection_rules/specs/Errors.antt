@@ -1,5 +1,5 @@
 -- The errors of building: what each case carries, and how a list of them stands in the tables of errors and path keys.
-use Rattle.std.specs.Prelude.{ℕ, ◌+◌, List, [], ◌∷◌, ◌++◌, length}
+use Rattle.std.specs.Prelude.{ℕ, ◌+◌, List, [], ◌∷◌, ◌++◌, length, Some, None, Option}
 use Rattle.schema.specs.declared.answers.OperationType.{OperationType}
 use Rattle.selection_rules.specs.declared.error.ExecutableDefinitionName.{ExecutableDefinitionName}
 use Rattle.selection_rules.specs.declared.error.SelectionPath.{SelectionPath}
@@ -78,3 +78,16 @@ code_of (UndefinedTypeInInlineFragmentTypeCondition location type-name path) = 7
 code_of (SubselectionOnScalarType location type-name path) = 8
 code_of (SubselectionOnEnumType location type-name path) = 9
 code_of (UndefinedField location type-name field-name path) = 10
+
+-- the path that a listed error has, if it has one
+abbrev pub path_of : BuildError → Option SelectionPath
+path_of (TypeSystemDefinition location name kind) = None
+path_of (AmbiguousAnonymousOperation location) = None
+path_of (OperationNameCollision location name previous) = None
+path_of (FragmentNameCollision location name previous) = None
+path_of (UndefinedRootOperation location operation) = None
+path_of (UndefinedTypeInNamedFragmentTypeCondition location type-name fragment-name) = None
+path_of (UndefinedTypeInInlineFragmentTypeCondition location type-name path) = Some path
+path_of (SubselectionOnScalarType location type-name path) = Some path
+path_of (SubselectionOnEnumType location type-name path) = Some path
+path_of (UndefinedField location type-name field-name path) = Some path

@@ -1,6 +1,6 @@
 // The errors of building, under the original's names, each with what it carries.
 ghost use Rattle.std.specs.Prelude.{◌≡◌};
-ghost use Rattle.selection_rules.specs.Errors.{code_of};
+ghost use Rattle.selection_rules.specs.Errors.{code_of, path_of};
 
 use schema::{Name, OperationType};
 
@@ -101,6 +101,19 @@ impl BuildError {
             BuildError::SubselectionOnScalarType { .. } => 8,
             BuildError::SubselectionOnEnumType { .. } => 9,
             BuildError::UndefinedField { .. } => 10,
+        }
+    }
+
+    /// The path to the selection that is at fault; errors 1 to 6 have none.
+    pub fn path(self) -> Option<SelectionPath>
+        ensures { result ≡ path_of self }
+    {
+        match self {
+            BuildError::UndefinedTypeInInlineFragmentTypeCondition { path, .. }
+            | BuildError::SubselectionOnScalarType { path, .. }
+            | BuildError::SubselectionOnEnumType { path, .. }
+            | BuildError::UndefinedField { path, .. } => Some(path),
+            _ => None,
         }
     }
 }
