@@ -124,7 +124,8 @@ pub fn build_set<S: Schema>(
     let mut rest = set;
     while let Some(step) = document.next_selection(rest) {
         let row = step.row;
-        match settle_in(schema, around, &row, !step.beneath.is_empty()) {
+        let is_leaf = step.beneath.is_empty();
+        match settle_in(schema, around, &row, !is_leaf) {
             Settled::Kept {
                 place,
                 set_type: inner,
@@ -132,17 +133,20 @@ pub fn build_set<S: Schema>(
                 let at = done.rows;
                 rows[at] = open_in(&row, place, inner);
                 done.rows += 1;
-                done = build_set(
-                    schema,
-                    document,
-                    step.beneath,
-                    inner,
-                    path.entering(&row),
-                    rows,
-                    errors,
-                    path_keys,
-                    done,
-                );
+                // Nothing is built beneath a leaf, and no path is copied for it.
+                if !is_leaf {
+                    done = build_set(
+                        schema,
+                        document,
+                        step.beneath,
+                        inner,
+                        path.entering(&row),
+                        rows,
+                        errors,
+                        path_keys,
+                        done,
+                    );
+                }
                 rows[at].selection.end = done.rows as u32;
             }
             Settled::Dropped => {}

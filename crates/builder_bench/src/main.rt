@@ -7,15 +7,14 @@
 // standard error, the sums of the answers to standard output.
 #![tactic(auto)]
 
-mod lent;
 mod shapes;
 mod world;
 
-use crate::lent::Lent;
 use crate::shapes::{Shape, all_shapes};
 use crate::world::{World, make_world};
 use builder::ExecutableDocumentBuilder;
 use document::Document;
+use owned_tables::{OwnedTables, TableLengths};
 use refusal::Refusal;
 use std::io;
 use std::time::Instant;
@@ -59,8 +58,8 @@ fn measure_changes<F: FnMut(u64) -> u64>(
 }
 
 // Makes a fresh builder: how many slots it emptied.
-fn make_only(world: &World, lent: &mut Lent) -> usize {
-    let mut tables = lent.tables();
+fn make_only(world: &World, owned: &mut OwnedTables) -> usize {
+    let mut tables = owned.lend();
     match ExecutableDocumentBuilder::new(&world.schema, &mut tables) {
         Ok(_) => tables.operation_slots.len(),
         Err(_) => 0,
@@ -68,8 +67,8 @@ fn make_only(world: &World, lent: &mut Lent) -> usize {
 }
 
 // Adds a document to a fresh builder: how many rows and errors there are then, or the number of the refusal.
-fn add_to_fresh(world: &World, lent: &mut Lent, document: &Document<'_>) -> usize {
-    let mut tables = lent.tables();
+fn add_to_fresh(world: &World, owned: &mut OwnedTables, document: &Document<'_>) -> usize {
+    let mut tables = owned.lend();
     match ExecutableDocumentBuilder::new(&world.schema, &mut tables) {
         Ok(mut builder) => match builder.add_ast_document(&mut tables, document, true) {
             Ok(()) => builder
@@ -88,10 +87,10 @@ fn add_to_fresh(world: &World, lent: &mut Lent, document: &Document<'_>) -> usiz
 fn measure_stored(
     rt: &HostRuntime,
     world: &World,
-    lent: &mut Lent,
+    owned: &mut OwnedTables,
     document: &Document<'_>,
 ) -> anyhow::Result<u64> {
-    let mut tables = lent.tables();
+    let mut tables = owned.lend();
     let mut builder = ExecutableDocumentBuilder::new(&world.schema, &mut tables)?;
     builder.add_ast_document(&mut tables, document, true)?;
     let stored = builder.stored(&tables);
@@ -104,7 +103,7 @@ fn measure_stored(
 fn measure_shape(
     rt: &HostRuntime,
     world: &World,
-    lent: &mut Lent,
+    owned: &mut OwnedTables,
     shape: &Shape,
 ) -> anyhow::Result<()> {
     let document = Document {
@@ -112,15 +111,15 @@ fn measure_shape(
         rows: shape.rows.as_slice(),
     };
     let what = shape.what;
-    let answer = add_to_fresh(world, lent, &document);
+    let answer = add_to_fresh(world, owned, &document);
     eprintln!(rt; "{what}")?;
     let whole = measure_changes(rt, "  making a builder and adding", |sum| {
-        sum_with(sum, add_to_fresh(world, lent, &document))
+        sum_with(sum, add_to_fresh(world, owned, &document))
     })?;
     let needs = measure(rt, "  needs, and the check before it", ROUNDS, |sum| {
         sum_with(sum, document.needs().map_or(0, |needs| needs.path_keys))
     })?;
-    let check = measure_stored(rt, world, lent, &document)?;
+    let check = measure_stored(rt, world, owned, &document)?;
     let rows = answer / 8192;
     let errors = answer % 8192;
     println!(rt;
@@ -131,17 +130,17 @@ fn measure_shape(
 
 fn run(rt: &HostRuntime) -> anyhow::Result<()> {
     let world = make_world(rt.alloc())?;
-    let mut lent = Lent::new(rt.alloc())?;
+    let mut owned = OwnedTables::new(rt.alloc(), TableLengths::FULL)?;
     eprintln!(rt; "told by row, although there are none:")?;
     let made = measure_changes(rt, "  making a builder", |sum| {
-        sum_with(sum, make_only(&world, &mut lent))
+        sum_with(sum, make_only(&world, &mut owned))
     })?;
     let nothing = measure_changes(rt, "  making a builder and adding nothing", |sum| {
-        sum_with(sum, add_to_fresh(&world, &mut lent, &NOTHING))
+        sum_with(sum, add_to_fresh(&world, &mut owned, &NOTHING))
     })?;
     println!(rt; "making a builder {made}, and adding nothing {nothing}")?;
     for shape in &all_shapes(rt.alloc())? {
-        measure_shape(rt, &world, &mut lent, shape)?;
+        measure_shape(rt, &world, &mut owned, shape)?;
     }
     Ok(())
 }

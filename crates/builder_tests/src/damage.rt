@@ -1,8 +1,9 @@
 // One number of what a builder stored is changed before it is handed back.
 use crate::desk::{Desk, stored_broken};
-use crate::lent::{Lent, definition_numbers, row_numbers};
+use crate::lent::{definition_numbers, row_numbers};
 use crate::sample::{NEEDED, NOTHING, filled};
 use document::{DefinitionRow, SelectionRow};
+use owned_tables::OwnedTables;
 use schema::Schema;
 use selection_rules::StoredRow;
 use std::process::Abort;
@@ -83,20 +84,20 @@ fn damage_row(row: &mut StoredRow, member: usize, value: u32) {
 }
 
 impl Damage {
-    pub fn make(self, lent: &mut Lent) {
+    pub fn make(self, owned: &mut OwnedTables) {
         match self {
             Damage::Operation(place, member, value) => {
-                if let Some(definition) = lent.operations.get_mut(place) {
+                if let Some(definition) = owned.operations.get_mut(place) {
                     damage_definition(definition, member, value);
                 }
             }
             Damage::Fragment(place, member, value) => {
-                if let Some(definition) = lent.fragments.get_mut(place) {
+                if let Some(definition) = owned.fragments.get_mut(place) {
                     damage_definition(definition, member, value);
                 }
             }
             Damage::Row(place, member, value) => {
-                if let Some(row) = lent.rows.get_mut(place) {
+                if let Some(row) = owned.rows.get_mut(place) {
                     damage_row(row, member, value);
                 }
             }
@@ -113,7 +114,7 @@ pub fn damage_is_told<S: Schema>(
     row: u32,
 ) -> Result<(), Fail> {
     for &damage in damages {
-        damage.make(&mut desk.lent);
+        damage.make(&mut desk.owned);
     }
     let verdict = if row == 0 { None } else { stored_broken(row) };
     assert_eq!(rt; desk.add(rt, &NOTHING, false)?, verdict, "{}", case);

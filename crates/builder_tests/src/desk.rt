@@ -1,8 +1,9 @@
 // A builder together with the tables that are lent to it, and the documents that come to it. Whenever a document is
 // refused, all that stands in the tables, and all that the builder answers, is looked at before and after.
-use crate::lent::{Lengths, Lent, definition_numbers, numbers};
+use crate::lent::{Lengths, definition_numbers, numbers, unwritten};
 use builder::ExecutableDocumentBuilder;
 use document::Document;
+use owned_tables::OwnedTables;
 use refusal::{Layer, Reason, Refusal};
 use schema::Schema;
 use std::alloc::{AllocError, Global};
@@ -44,7 +45,7 @@ pub fn stored_broken(row: u32) -> Verdict {
 #[derive(Drop)]
 pub struct Desk<'s, S> {
     pub builder: ExecutableDocumentBuilder<'s, S>,
-    pub lent: Lent,
+    pub owned: OwnedTables,
 }
 
 impl<'s, S: Schema> Desk<'s, S> {
@@ -60,9 +61,9 @@ impl<'s, S: Schema> Desk<'s, S> {
         lengths: Lengths,
         slots: [usize; 2],
     ) -> Result<Desk<'s, S>, Fail> {
-        let mut lent = Lent::new(heap, lengths, slots)?;
-        let builder = ExecutableDocumentBuilder::new(schema, &mut lent.tables())?;
-        Ok(Desk { builder, lent })
+        let mut owned = unwritten(heap, lengths, slots)?;
+        let builder = ExecutableDocumentBuilder::new(schema, &mut owned.lend())?;
+        Ok(Desk { builder, owned })
     }
 
     // Adds a document; a refusal is to change nothing.
@@ -75,7 +76,7 @@ impl<'s, S: Schema> Desk<'s, S> {
         let before = self.numbers(rt.alloc())?;
         let refusal = self
             .builder
-            .add_ast_document(&mut self.lent.tables(), document, strict)
+            .add_ast_document(&mut self.owned.lend(), document, strict)
             .err()
             .map(Refusal::from);
         if refusal.is_some() {
@@ -87,7 +88,7 @@ impl<'s, S: Schema> Desk<'s, S> {
 
     // How many named operations, fragments, rows and errors there are.
     pub fn counts(&mut self) -> [usize; 4] {
-        let tables = self.lent.tables();
+        let tables = self.owned.lend();
         let stored = self.builder.stored(&tables);
         [
             stored.operations.len(),
@@ -99,14 +100,14 @@ impl<'s, S: Schema> Desk<'s, S> {
 
     // The anonymous operation, if one is stored.
     pub fn anonymous(&mut self) -> Option<StoredDefinition> {
-        self.builder.stored(&self.lent.tables()).anonymous
+        self.builder.stored(&self.owned.lend()).anonymous
     }
 
     // All that stands in the tables, and all that the builder answers.
     fn numbers(&mut self, heap: Global) -> Result<Vec<u32>, AllocError> {
         let counts = self.counts();
         let anonymous = self.anonymous();
-        let mut all = numbers(heap, &self.lent.tables())?;
+        let mut all = numbers(heap, &self.owned.lend())?;
         for count in counts {
             all.push(u32::try_from(count).unwrap_or(u32::MAX))?;
         }

@@ -1,10 +1,11 @@
 // Indexes that are handed back damaged, each of the two: they are no index of the stored names, or too short.
 use crate::closed::closed_schema;
 use crate::desk::{Desk, UNFIT, Verdict};
-use crate::lent::{Lent, UNWRITTEN};
+use crate::lent::UNWRITTEN;
 use crate::rows::{FRAGMENT, OPERATION, definition};
 use crate::sample::{NEEDED, NOTHING, filled};
 use document::Document;
+use owned_tables::OwnedTables;
 use schema::{OpenSchema, Schema};
 use std::alloc::AllocError;
 use std::mem;
@@ -12,11 +13,11 @@ use std::process::Abort;
 use std::test::Fail;
 
 // The slots of the operations, or those of the fragments.
-fn slots_of(lent: &mut Lent, operations: bool) -> &mut Vec<u32> {
+fn slots_of(owned: &mut OwnedTables, operations: bool) -> &mut Vec<u32> {
     if operations {
-        &mut lent.operation_slots
+        &mut owned.operation_slots
     } else {
-        &mut lent.fragment_slots
+        &mut owned.fragment_slots
     }
 }
 
@@ -28,12 +29,12 @@ fn with_slot<S: Schema>(
     place: usize,
     value: u32,
 ) -> Result<Verdict, Fail> {
-    let slot = slots_of(&mut desk.lent, operations)
+    let slot = slots_of(&mut desk.owned, operations)
         .get_mut(place)
         .ok_or("no such slot")?;
     let held = mem::replace(slot, value);
     let verdict = desk.add(rt, &NOTHING, false)?;
-    if let Some(slot) = slots_of(&mut desk.lent, operations).get_mut(place) {
+    if let Some(slot) = slots_of(&mut desk.owned, operations).get_mut(place) {
         *slot = held;
     }
     Ok(verdict)
@@ -45,7 +46,7 @@ fn one_slot_damaged(rt: HostRuntime) -> Result<(), Fail> {
     let schema = closed_schema(rt.alloc())?;
     let mut desk = filled(&rt, &schema, NEEDED)?;
     for operations in [true, false] {
-        let slots = slots_of(&mut desk.lent, operations)
+        let slots = slots_of(&mut desk.owned, operations)
             .as_slice()
             .to_vec(rt.alloc())?;
         assert_eq!(rt; slots.iter().filter(|slot| **slot != 0).count(), 2);
@@ -82,22 +83,22 @@ fn other_indexes(rt: HostRuntime) -> Result<(), Fail> {
     for operations in [true, false] {
         let mut desk = filled(&rt, &schema, NEEDED)?;
         mem::swap(
-            slots_of(&mut desk.lent, operations),
-            slots_of(&mut other.lent, operations),
+            slots_of(&mut desk.owned, operations),
+            slots_of(&mut other.owned, operations),
         );
         assert_eq!(rt; desk.add(&rt, &NOTHING, false)?, UNFIT, "{}", operations);
         assert_eq!(rt; other.add(&rt, &NOTHING, false)?, UNFIT, "{}", operations);
         mem::swap(
-            slots_of(&mut desk.lent, operations),
-            slots_of(&mut other.lent, operations),
+            slots_of(&mut desk.owned, operations),
+            slots_of(&mut other.owned, operations),
         );
         assert_eq!(rt; desk.add(&rt, &NOTHING, false)?, None);
         assert_eq!(rt; other.add(&rt, &NOTHING, false)?, None);
     }
     let mut desk = filled(&rt, &schema, NEEDED)?;
-    let fragment_slots = desk.lent.fragment_slots.as_slice().to_vec(rt.alloc())?;
-    let operation_slots = mem::replace(slots_of(&mut desk.lent, true), fragment_slots);
-    *slots_of(&mut desk.lent, false) = operation_slots;
+    let fragment_slots = desk.owned.fragment_slots.as_slice().to_vec(rt.alloc())?;
+    let operation_slots = mem::replace(slots_of(&mut desk.owned, true), fragment_slots);
+    *slots_of(&mut desk.owned, false) = operation_slots;
     assert_eq!(rt; desk.add(&rt, &NOTHING, false)?, UNFIT);
     Ok(())
 }
@@ -115,7 +116,7 @@ fn lengths_handed_back(rt: HostRuntime) -> Result<(), Fail> {
             (1024, None),
         ] {
             let mut desk = filled(&rt, &schema, NEEDED)?;
-            slots_of(&mut desk.lent, operations).resize(length, UNWRITTEN)?;
+            slots_of(&mut desk.owned, operations).resize(length, UNWRITTEN)?;
             assert_eq!(rt;
                 desk.add(&rt, &NOTHING, false)?,
                 verdict,

@@ -2,7 +2,7 @@
 // when they are handed back.
 use crate::closed::closed_schema;
 use crate::desk::{Desk, NO_ROOM, TOO_SHORT, UNFIT};
-use crate::lent::{Lengths, Lent, UNWRITTEN, numbers};
+use crate::lent::{Lengths, UNWRITTEN, numbers, shorten, unwritten};
 use crate::sample::{FILLED, NEEDED, NOTHING, add_sample, filled};
 use builder::ExecutableDocumentBuilder;
 use refusal::Refusal;
@@ -54,7 +54,7 @@ fn tables_handed_back(rt: HostRuntime) -> Result<(), Fail> {
             (0, TOO_SHORT),
         ] {
             let mut desk = filled(&rt, &schema, NEEDED)?;
-            desk.lent.shorten(table, length);
+            shorten(&mut desk.owned, table, length);
             assert_eq!(rt;
                 desk.add(&rt, &NOTHING, false)?,
                 verdict,
@@ -71,11 +71,11 @@ fn tables_handed_back(rt: HostRuntime) -> Result<(), Fail> {
 #[test]
 fn indexes_lent(rt: HostRuntime) -> Result<(), Fail> {
     for slots in [[511, 512], [512, 511], [0, 512], [512, 0], [511, 1024]] {
-        let mut lent = Lent::new(rt.alloc(), NEEDED, slots)?;
-        let before = numbers(rt.alloc(), &lent.tables())?;
-        let fault = ExecutableDocumentBuilder::new(&OpenSchema, &mut lent.tables()).err();
+        let mut owned = unwritten(rt.alloc(), NEEDED, slots)?;
+        let before = numbers(rt.alloc(), &owned.lend())?;
+        let fault = ExecutableDocumentBuilder::new(&OpenSchema, &mut owned.lend()).err();
         assert_eq!(rt; fault.map(Refusal::from), UNFIT, "{:?}", slots);
-        assert!(rt; numbers(rt.alloc(), &lent.tables())? == before);
+        assert!(rt; numbers(rt.alloc(), &owned.lend())? == before);
     }
     Ok(())
 }
@@ -97,20 +97,20 @@ fn further_slots(rt: HostRuntime) -> Result<(), Fail> {
         let mut desk = Desk::with_slots(rt.alloc(), &schema, NEEDED, slots)?;
         let [operations, fragments] = slots;
         assert_eq!(rt;
-            further(desk.lent.operation_slots.as_slice()),
+            further(desk.owned.operation_slots.as_slice()),
             (operations.saturating_sub(512), true)
         );
         assert_eq!(rt;
-            further(desk.lent.fragment_slots.as_slice()),
+            further(desk.owned.fragment_slots.as_slice()),
             (fragments.saturating_sub(512), true)
         );
         assert_eq!(rt; add_sample(&rt, &mut desk)?, None);
         assert_eq!(rt;
-            further(desk.lent.operation_slots.as_slice()),
+            further(desk.owned.operation_slots.as_slice()),
             (operations.saturating_sub(512), false)
         );
         assert_eq!(rt;
-            further(desk.lent.fragment_slots.as_slice()),
+            further(desk.owned.fragment_slots.as_slice()),
             (fragments.saturating_sub(512), false)
         );
         assert_eq!(rt; desk.add(&rt, &NOTHING, false)?, None);

@@ -1,6 +1,7 @@
 // What the tests lend to a builder: tables on the heap, and all that stands in them as numbers.
 use builder::{MAX_ERRORS, MAX_FRAGMENTS, MAX_OPERATIONS, MAX_PATH_KEYS, MAX_STORED_ROWS};
 use document::DefinitionRow;
+use owned_tables::{OwnedTables, TableLengths};
 use selection_rules::{BuildError, ExecutableDefinitionName, SelectionPath, StoredRow};
 use std::alloc::{AllocError, Global};
 use stored_tables::{StoredDefinition, Tables};
@@ -20,66 +21,60 @@ pub const LIMITS: Lengths = [
 // What stands in places that no call has written.
 pub const UNWRITTEN: u32 = 77;
 
-#[derive(Drop)]
-pub struct Lent {
-    pub operations: Vec<StoredDefinition>,
-    pub operation_slots: Vec<u32>,
-    pub fragments: Vec<StoredDefinition>,
-    pub fragment_slots: Vec<u32>,
-    pub rows: Vec<StoredRow>,
-    pub errors: Vec<BuildError>,
-    pub path_keys: Vec<u32>,
+// Tables of these lengths, with so many slots for operations and for fragments, filled with what no call writes.
+pub fn unwritten(
+    heap: Global,
+    lengths: Lengths,
+    slots: [usize; 2],
+) -> Result<OwnedTables, AllocError> {
+    let [operations, fragments, rows, errors, path_keys] = lengths;
+    let [operation_slots, fragment_slots] = slots;
+    let mut owned = OwnedTables::new(
+        heap,
+        TableLengths {
+            operations,
+            operation_slots,
+            fragments,
+            fragment_slots,
+            rows,
+            errors,
+            path_keys,
+        },
+    )?;
+    fill(&mut owned.lend());
+    Ok(owned)
 }
 
-impl Lent {
-    // Tables of these lengths, with so many slots for operations and for fragments.
-    pub fn new(heap: Global, lengths: Lengths, slots: [usize; 2]) -> Result<Lent, AllocError> {
-        let [operations, fragments, rows, errors, path_keys] = lengths;
-        let definition = StoredDefinition::new(
-            &DefinitionRow::default(),
-            UNWRITTEN,
-            UNWRITTEN,
-            UNWRITTEN,
-        );
-        let row = StoredRow {
-            place: UNWRITTEN,
-            ..Default::default()
-        };
-        let error = BuildError::AmbiguousAnonymousOperation {
-            location: UNWRITTEN,
-        };
-        Ok(Lent {
-            operations: vec![in heap; definition; operations]?,
-            operation_slots: vec![in heap; UNWRITTEN; slots[0]]?,
-            fragments: vec![in heap; definition; fragments]?,
-            fragment_slots: vec![in heap; UNWRITTEN; slots[1]]?,
-            rows: vec![in heap; row; rows]?,
-            errors: vec![in heap; error; errors]?,
-            path_keys: vec![in heap; UNWRITTEN; path_keys]?,
-        })
-    }
+// Fills the tables with what no call writes.
+fn fill(tables: &mut Tables<'_>) {
+    let definition = StoredDefinition::new(
+        &DefinitionRow::default(),
+        UNWRITTEN,
+        UNWRITTEN,
+        UNWRITTEN,
+    );
+    tables.operations.fill(definition);
+    tables.operation_slots.fill(UNWRITTEN);
+    tables.fragments.fill(definition);
+    tables.fragment_slots.fill(UNWRITTEN);
+    tables.rows.fill(StoredRow {
+        place: UNWRITTEN,
+        ..Default::default()
+    });
+    tables.errors.fill(BuildError::AmbiguousAnonymousOperation {
+        location: UNWRITTEN,
+    });
+    tables.path_keys.fill(UNWRITTEN);
+}
 
-    pub fn tables(&mut self) -> Tables<'_> {
-        Tables {
-            operations: self.operations.as_mut_slice(),
-            operation_slots: self.operation_slots.as_mut_slice(),
-            fragments: self.fragments.as_mut_slice(),
-            fragment_slots: self.fragment_slots.as_mut_slice(),
-            rows: self.rows.as_mut_slice(),
-            errors: self.errors.as_mut_slice(),
-            path_keys: self.path_keys.as_mut_slice(),
-        }
-    }
-
-    // Shortens one of the five tables, told by its place among the lengths.
-    pub fn shorten(&mut self, table: usize, length: usize) {
-        match table {
-            0 => self.operations.truncate(length),
-            1 => self.fragments.truncate(length),
-            2 => self.rows.truncate(length),
-            3 => self.errors.truncate(length),
-            _ => self.path_keys.truncate(length),
-        }
+// Shortens one of the five tables, told by its place among the lengths.
+pub fn shorten(owned: &mut OwnedTables, table: usize, length: usize) {
+    match table {
+        0 => owned.operations.truncate(length),
+        1 => owned.fragments.truncate(length),
+        2 => owned.rows.truncate(length),
+        3 => owned.errors.truncate(length),
+        _ => owned.path_keys.truncate(length),
     }
 }
 

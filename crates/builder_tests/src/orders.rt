@@ -2,10 +2,11 @@
 use crate::closed::{UNIT_FIELD, closed_schema};
 use crate::damage::{Damage, KIND};
 use crate::desk::Verdict;
-use crate::lent::Lent;
+use crate::lent::shorten;
 use crate::rows::{OPERATION, flat, named};
 use crate::sample::filled;
 use document::Document;
+use owned_tables::OwnedTables;
 use refusal::{Layer, Reason, Refusal};
 use schema::Schema;
 use std::process::Abort;
@@ -69,14 +70,14 @@ const TROUBLES: [(Trouble, Reason, Layer, u32); 9] = [
 ];
 
 // Makes a trouble of the tables that are handed back.
-fn trouble_tables(lent: &mut Lent, trouble: Trouble) {
+fn trouble_tables(owned: &mut OwnedTables, trouble: Trouble) {
     match trouble {
-        Trouble::ShortTable => lent.shorten(2, 10),
-        Trouble::BrokenOperation => Damage::Operation(1, KIND, 0).make(lent),
-        Trouble::BrokenFragment => Damage::Fragment(0, KIND, 0).make(lent),
-        Trouble::BrokenRow => Damage::Row(7, KIND, 0).make(lent),
-        Trouble::DamagedIndex => lent.fragment_slots.as_mut_slice().fill(0),
-        Trouble::NoRoom => lent.shorten(0, 2),
+        Trouble::ShortTable => shorten(owned, 2, 10),
+        Trouble::BrokenOperation => Damage::Operation(1, KIND, 0).make(owned),
+        Trouble::BrokenFragment => Damage::Fragment(0, KIND, 0).make(owned),
+        Trouble::BrokenRow => Damage::Row(7, KIND, 0).make(owned),
+        Trouble::DamagedIndex => owned.fragment_slots.as_mut_slice().fill(0),
+        Trouble::NoRoom => shorten(owned, 0, 2),
         _ => {}
     }
 }
@@ -89,7 +90,7 @@ fn verdict_with<S: Schema>(
 ) -> Result<Verdict, Fail> {
     let mut desk = filled(rt, schema, [3, 2, 12, 22, 14])?;
     for &trouble in troubles {
-        trouble_tables(&mut desk.lent, trouble);
+        trouble_tables(&mut desk.owned, trouble);
     }
     let count = if troubles.contains(&Trouble::ManyDefinitions) {
         257

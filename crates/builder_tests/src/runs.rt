@@ -59,10 +59,10 @@ fn refused_calls<S: Schema>(
         row: 2,
     };
     assert_eq!(rt; desk.add(rt, &broken, true)?, Some(refusal));
-    let slots = desk.lent.operation_slots.as_slice().to_vec(rt.alloc())?;
-    desk.lent.operation_slots.as_mut_slice().fill(1);
+    let slots = desk.owned.operation_slots.as_slice().to_vec(rt.alloc())?;
+    desk.owned.operation_slots.as_mut_slice().fill(1);
     assert_eq!(rt; desk.add(rt, &NOTHING, true)?, UNFIT);
-    desk.lent.operation_slots = slots;
+    desk.owned.operation_slots = slots;
     Ok(())
 }
 
@@ -74,7 +74,7 @@ fn errors_are<S: Schema>(
     call: usize,
     listed: &[[u32; 4]],
 ) {
-    let tables = desk.lent.tables();
+    let tables = desk.owned.lend();
     let errors = desk.builder.errors(&tables);
     assert_eq!(rt;
         errors.len().checked_sub(before),
@@ -95,7 +95,7 @@ fn definitions_are(rt: &impl Abort, definitions: &[StoredDefinition], expected: 
 }
 
 fn stored_is<S: Schema>(rt: &impl Abort, desk: &mut Desk<'_, S>, expected: Stored) {
-    let tables = desk.lent.tables();
+    let tables = desk.owned.lend();
     let stored = desk.builder.stored(&tables);
     definitions_are(rt, stored.operations, expected.0);
     definitions_are(rt, stored.fragments, expected.1);

@@ -8,7 +8,7 @@ use crate::rows::{OPERATION, definition, field};
 use crate::sample::{NEEDED, filled};
 use document::{Document, SelectionRow};
 use schema::Schema;
-use selection_rules::{BuildError, ExecutableDefinitionName, SelectionPath, StoredRow};
+use selection_rules::{ExecutableDefinitionName, SelectionPath, StoredRow};
 use std::process::Abort;
 use std::test::Fail;
 use stored_tables::StoredDefinition;
@@ -43,7 +43,7 @@ const SAMPLE_ROWS: [[u32; 6]; 11] = [
 ];
 
 fn rows_are<S: Schema>(rt: &impl Abort, desk: &mut Desk<'_, S>, expected: &[[u32; 6]]) {
-    let tables = desk.lent.tables();
+    let tables = desk.owned.lend();
     let stored = desk.builder.stored(&tables);
     assert_eq!(rt; stored.rows.len(), expected.len());
     for (row, &told) in stored.rows.iter().zip(expected) {
@@ -72,14 +72,14 @@ fn sample_stored(rt: HostRuntime) -> Result<(), Fail> {
         (0, [1, 0, 30, 0, 0, 0, 0, 0, 0, 1, 6, QUERY]),
         (1, [1, 0, 31, 0, 0, 0, 0, 0, 0, 8, 9, QUERY]),
     ] {
-        let stored = desk.lent.operations.get(place as usize).copied();
+        let stored = desk.owned.operations.get(place as usize).copied();
         definition_is(&rt, stored, expected);
     }
     for (place, expected) in [
         (0, [2, 0, 40, 1, 0, 0, 0, 0, 0, 6, 8, QUERY]),
         (1, [2, 0, 41, 1, 0, 0, 0, 0, 0, 9, 11, QUERY]),
     ] {
-        let stored = desk.lent.fragments.get(place as usize).copied();
+        let stored = desk.owned.fragments.get(place as usize).copied();
         definition_is(&rt, stored, expected);
     }
     Ok(())
@@ -135,10 +135,10 @@ fn faults_are<S: Schema>(
     desk: &mut Desk<'_, S>,
     expected: &[([u32; 9], &'static [u32])],
 ) -> Result<(), Fail> {
-    let tables = desk.lent.tables();
+    let tables = desk.owned.lend();
     for (error, &(members, keys)) in desk.builder.errors(&tables).iter().zip(expected) {
         assert_eq!(rt; error_numbers(*error), members);
-        let path = path_of(*error).ok_or("an error without a path")?;
+        let path = error.path().ok_or("an error without a path")?;
         assert_eq!(rt; desk.builder.response_keys(&tables, path), keys);
     }
     Ok(())
@@ -161,19 +161,8 @@ fn paths_listed(rt: HostRuntime) -> Result<(), Fail> {
     faults_are(&rt, &mut desk, &FAULTS)
 }
 
-// The path of an error of a selection.
-fn path_of(error: BuildError) -> Option<SelectionPath> {
-    match error {
-        BuildError::UndefinedTypeInInlineFragmentTypeCondition { path, .. }
-        | BuildError::SubselectionOnScalarType { path, .. }
-        | BuildError::SubselectionOnEnumType { path, .. }
-        | BuildError::UndefinedField { path, .. } => Some(path),
-        _ => None,
-    }
-}
-
 fn path_keys<S: Schema>(desk: &mut Desk<'_, S>, path: SelectionPath) -> usize {
-    let tables = desk.lent.tables();
+    let tables = desk.owned.lend();
     desk.builder.response_keys(&tables, path).len()
 }
 

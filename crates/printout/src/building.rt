@@ -2,8 +2,8 @@
 use crate::printer::Printer;
 use crate::refusals::Refused;
 use crate::sections::DocumentText;
-use crate::tables::FullTables;
-use builder::ExecutableDocumentBuilder;
+use builder::{BuilderFault, ExecutableDocumentBuilder};
+use owned_tables::{OwnedTables, TableLengths};
 use schema::Schema;
 use std::alloc::AllocError;
 use stored_tables::Tables;
@@ -18,8 +18,8 @@ impl<'n, 'a> Printer<'n, 'a> {
         if documents.is_empty() {
             return Ok(());
         }
-        let mut full = FullTables::new(self.heap)?;
-        let mut tables = full.lend();
+        let mut owned = OwnedTables::new(self.heap, TableLengths::FULL)?;
+        let mut tables = owned.lend();
         let mut builder = match ExecutableDocumentBuilder::new(schema, &mut tables) {
             Ok(builder) => builder,
             Err(fault) => return self.line(Refused::Builder(fault)),
@@ -31,7 +31,8 @@ impl<'n, 'a> Printer<'n, 'a> {
         self.built(&builder, &tables)
     }
 
-    /// Adds that the builder takes the document, or why it does not.
+    /// Adds that the builder takes the document, or why it does not. Of one that is none this stands there already, in
+    /// place of the outline.
     fn adding<S: Schema>(
         &mut self,
         builder: &mut ExecutableDocumentBuilder<'_, S>,
@@ -42,6 +43,7 @@ impl<'n, 'a> Printer<'n, 'a> {
         match builder.add_ast_document(tables, &text.handed(), is_strict) {
             Ok(()) if is_strict => self.line("It is added strictly."),
             Ok(()) => self.line("It is added."),
+            Err(BuilderFault::Document(_)) => Ok(()),
             Err(fault) => self.line(Refused::Builder(fault)),
         }
     }

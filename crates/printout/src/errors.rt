@@ -3,7 +3,7 @@ use crate::answers::Operations;
 use crate::outlines::operation_word;
 use crate::shown::Shown;
 use schema::Name;
-use selection_rules::{BuildError, ExecutableDefinitionName, SelectionPath};
+use selection_rules::{BuildError, ExecutableDefinitionName};
 use std::fmt;
 
 /// An error that is listed, with the response keys of its path.
@@ -11,17 +11,6 @@ use std::fmt;
 pub struct Listed<'t> {
     pub error: BuildError,
     pub keys: &'t [Name],
-}
-
-/// The path of an error, if it has one.
-pub fn path_of(error: BuildError) -> Option<SelectionPath> {
-    match error {
-        BuildError::UndefinedTypeInInlineFragmentTypeCondition { path, .. }
-        | BuildError::SubselectionOnScalarType { path, .. }
-        | BuildError::SubselectionOnEnumType { path, .. }
-        | BuildError::UndefinedField { path, .. } => Some(path),
-        _ => None,
-    }
 }
 
 /// Where the error is.
@@ -52,7 +41,7 @@ impl fmt::Display for Shown<'_, '_, Listed<'_>> {
             value: error,
         };
         write!(f, "Error {code} at {location}: {fault}")?;
-        let Some(path) = path_of(error) else {
+        let Some(path) = error.path() else {
             return Ok(());
         };
         let root = Shown {

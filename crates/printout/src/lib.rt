@@ -12,7 +12,6 @@ mod printer;
 mod refusals;
 mod sections;
 mod shown;
-mod tables;
 mod typed;
 mod whole;
 

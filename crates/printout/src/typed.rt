@@ -1,6 +1,6 @@
 // What a builder has listed and stored: the errors, and the outlines with the types.
 use crate::answers::Place;
-use crate::errors::{Listed, path_of};
+use crate::errors::Listed;
 use crate::printer::Printer;
 use crate::shown::Shown;
 use builder::ExecutableDocumentBuilder;
@@ -97,7 +97,7 @@ impl<'n, 'a> Printer<'n, 'a> {
         let errors = builder.errors(tables);
         self.counts(&stored, errors.len())?;
         for error in errors {
-            let keys = match path_of(*error) {
+            let keys = match error.path() {
                 Some(path) => builder.response_keys(tables, path),
                 None => &[],
             };

@@ -1,8 +1,8 @@
 // Builds the documents of a test case, side by side, and prints what came of it.
 use crate::listing::print_built;
 use crate::parts::{Case, SchemaPart, Side};
-use crate::tables::{FULL_LENGTHS, OwnedTables};
 use builder::ExecutableDocumentBuilder;
+use owned_tables::{OwnedTables, TableLengths};
 use refusal::Refusal;
 use schema::{OpenSchema, Schema};
 use std::io;
@@ -17,7 +17,7 @@ fn print_refusal(rt: &HostRuntime, refusal: Refusal) -> io::Result<()> {
 
 // Adds the documents of a side to a builder of its own.
 fn print_side<S: Schema>(rt: &HostRuntime, schema: &S, side: &Side) -> io::Result<()> {
-    let mut owned = OwnedTables::new(rt.alloc(), side.tables.unwrap_or(FULL_LENGTHS))?;
+    let mut owned = OwnedTables::new(rt.alloc(), side.tables.unwrap_or(TableLengths::FULL))?;
     let mut tables = owned.lend();
     let mut builder = match ExecutableDocumentBuilder::new(schema, &mut tables) {
         Ok(builder) => builder,

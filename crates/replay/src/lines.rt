@@ -30,7 +30,7 @@ impl fmt::Display for ErrorLine<'_> {
         let code = self.error.code();
         let members = members_of(self.error);
         let members = Numbers(&members);
-        let root = root_numbers(path_of(self.error));
+        let root = root_numbers(self.error.path());
         let root = Numbers(&root);
         let keys = Numbers(self.keys);
         write!(f, "error {code}{members} |{root} |{keys}")
@@ -86,17 +86,6 @@ fn members_of(error: BuildError) -> [u32; 6] {
             field_name,
             ..
         } => [location, 0, 0, type_name, field_name, 0],
-    }
-}
-
-/// The path of an error, if it has one.
-pub fn path_of(error: BuildError) -> Option<SelectionPath> {
-    match error {
-        BuildError::UndefinedTypeInInlineFragmentTypeCondition { path, .. }
-        | BuildError::SubselectionOnScalarType { path, .. }
-        | BuildError::SubselectionOnEnumType { path, .. }
-        | BuildError::UndefinedField { path, .. } => Some(path),
-        _ => None,
     }
 }
 

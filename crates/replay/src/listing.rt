@@ -1,5 +1,5 @@
 // Prints what a builder has listed and stored.
-use crate::lines::{DefinitionLine, ErrorLine, RowLine, path_of};
+use crate::lines::{DefinitionLine, ErrorLine, RowLine};
 use builder::ExecutableDocumentBuilder;
 use schema::Schema;
 use selection_rules::{BuildError, StoredRow};
@@ -21,7 +21,7 @@ fn print_errors<S: Schema>(
     errors: &[BuildError],
 ) -> io::Result<()> {
     for error in errors {
-        let keys = match path_of(*error) {
+        let keys = match error.path() {
             Some(path) => builder.response_keys(tables, path),
             None => &[],
         };

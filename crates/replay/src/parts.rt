@@ -1,5 +1,6 @@
 // What a test case is made of.
 use document::{DefinitionRow, Document, SelectionRow};
+use owned_tables::TableLengths;
 use table_schema::{FieldRow, RootTypes, SchemaRows, TypeRow};
 
 /// A test case: a schema, and the sides that are built over it, two where they are to be compared.
@@ -43,16 +44,6 @@ impl TablePart {
 pub struct Side {
     pub tables: Option<TableLengths>,
     pub documents: Vec<DocumentPart>,
-}
-
-/// The lengths of the tables that are handed over to be built in.
-#[derive(Clone, Copy)]
-pub struct TableLengths {
-    pub operations: u32,
-    pub fragments: u32,
-    pub rows: u32,
-    pub errors: u32,
-    pub path_keys: u32,
 }
 
 /// A document, and whether it is added strictly.

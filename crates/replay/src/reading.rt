@@ -1,7 +1,8 @@
 // How each part of a test case is read from its numbers.
-use crate::parts::{Case, DocumentPart, SchemaPart, Side, TableLengths, TablePart};
+use crate::parts::{Case, DocumentPart, SchemaPart, Side, TablePart};
 use crate::words::Words;
 use document::{DefinitionRow, SelectionRow};
+use owned_tables::TableLengths;
 use std::alloc::{AllocError, Global};
 use table_schema::{FieldRow, RootTypes, TypeRow};
 use thiserror::Error;
@@ -68,18 +69,19 @@ impl Part for DocumentPart {
     }
 }
 
-// The lengths of the tables, if a line with them comes next.
+// The lengths of the tables, if a line with them comes next; the indexes are as long as they have to be.
 fn read_lengths(words: &mut Words<'_>) -> Result<Option<TableLengths>, ReadFault> {
     if !words.comes_after("tables") {
         return Ok(None);
     }
     let [operations, fragments, rows, errors, path_keys] = numbers::<5>(words)?;
     Ok(Some(TableLengths {
-        operations,
-        fragments,
-        rows,
-        errors,
-        path_keys,
+        operations: operations as usize,
+        fragments: fragments as usize,
+        rows: rows as usize,
+        errors: errors as usize,
+        path_keys: path_keys as usize,
+        ..TableLengths::FULL
     }))
 }
 

@@ -1,7 +1,8 @@
 -- Each turn keeps, drops or lists one selection.
-use Rattle.std.proofs.Common.{◌≡◌, ℕ, Bool, not, [], ◌∷◌, length, get_or, set, sym, ap, ◌∙◌, subst, arith, rules}
+use Rattle.std.proofs.Common.{◌≡◌, ℕ, ◌≤◌, Bool, false, not, [], ◌∷◌, length, get_or, set, sym, refl, ap, ◌∙◌, subst, arith, rules}
+use Rattle.std.proofs.lemmas.Bool.{false≢true}
 use Rattle.std.proofs.lemmas.List.{length-take-le}
-use Rattle.layout.specs.Forest.{none}
+use Rattle.layout.specs.Forest.{Forest, none, row}
 use Rattle.document.specs.Rows.{Selection, selection_of}
 use Rattle.schema.specs.Meaning.{Meaning}
 use Rattle.selection_rules.specs.declared.settling.Settled.{Settled}
@@ -10,16 +11,22 @@ use Rattle.selection_rules.specs.declared.stored.StoredRow.{StoredRow}
 use Rattle.selection_rules.specs.Stored.{stored_in, stored_row}
 use Rattle.selection_rules.specs.Errors.{Path}
 use Rattle.selection_rules.specs.Sets.{path_to, some_row, error_of, build, errors as errors-of}
+use Rattle.builder.specs.declared.filled.Filled.{Filled}
 use Rattle.builder.specs.Filling.{path_of, Output, output, with_set}
 use Rattle.builder.proofs.Bounds.{some_beneath}
-use Rattle.builder.proofs.Outputs.{same_output, opened_with, still_open, no_stored_row, ended}
+use Rattle.builder.proofs.Outputs.{same_output, nothing_more, opened_with, still_open, no_stored_row, ended}
 use Rattle.builder.proofs.Left.{Left, begin, finish, turn, dropped, faulty, beneath, kept, few_beneath}
 use Rattle.builder.proofs.set.+build_set.Goals as goal
-use Rattle.builder.proofs.set.+build_set.Goals.{in-Kept, in-Dropped, in-Faulty}
+use Rattle.builder.proofs.set.+build_set.Goals.{in-Kept, in-Dropped, in-Faulty, then-not-is_leaf, else-not-is_leaf}
 
 -- what was settled, said of the forest beneath
-settled_so : (m : Meaning) (around : ℕ) (s : Selection) (v : Settled) (empty test row : Bool) → empty ≡ test → not test ≡ row → v ≡ settled_in m around s (not empty) → settled_in m around s row ≡ v
-settled_so m around s v empty test row e f is = ap (settled_in m around s) (sym (ap not e ∙ f)) ∙ sym is
+settled_so : (m : Meaning) (around : ℕ) (s : Selection) (v : Settled) (empty test some : Bool) → empty ≡ test → not test ≡ some → v ≡ settled_in m around s (not empty) → settled_in m around s some ≡ v
+settled_so m around s v empty test some e f is = ap (settled_in m around s) (sym (ap not e ∙ f)) ∙ sym is
+
+-- nothing stands in a forest without a row
+no_row : (f : Forest Selection) → some_row f ≡ false → f ≡ none
+no_row none is = refl
+no_row (row s below after) is = absurd (false≢true (sym is))
 
 pub loop-step-init : goal.loop-step-init
 loop-step-init g t c = begin _ _ _ _ _ _ _ c.requires.room.0 c.requires.room.1
@@ -37,7 +44,14 @@ overflow_cast-rows g t c =
     let w = c.loop-step.invariant in
     let o = output c.loop-step.rows c.loop-step.errors c.loop-step.path_keys c.loop-step.done in
     let tr = turn _ _ _ _ _ _ _ c.loop-step.rest o w c.in-Some.step c.in-Some.ensures.step in
-    let few = few_beneath _ _ _ _ _ _ _ c.loop-step.rest o w c.in-Some.step tr c.in-Kept.inner c.open_in.result (path_of c.entering.result) _ (c.build_set-done.ensures tr.below tr.beneath) in
+    let low : c.if-not-is_leaf.done.rows ≤ 16384 =
+    elim c.if-not-is_leaf.branch [
+      | then-not-is_leaf k ↦
+          let few = few_beneath _ _ _ _ _ _ _ c.loop-step.rest o w c.in-Some.step tr c.in-Kept.inner c.open_in.result (path_of k.entering.result) _ (k.build_set-done.ensures tr.below tr.beneath) in
+          omega (arith, ap (λ (x : Filled). x.rows) k.done-is)
+      | else-not-is_leaf k ↦ omega (arith, ap (λ (x : Filled). x.rows) k.done-is, tr.many, w.room.rows_few)
+    ]
+    in
     search rules
 
 pub loop-step-preserved : goal.loop-step-preserved
@@ -53,26 +67,38 @@ loop-step-preserved g t c =
     let even : length (path_of c.args.path).keys ≡ c.args.path.depth = length-take-le c.args.path.depth c.args.path.keys (omega (arith, tr.shallow)) in
     elim c.match-settle_in.branch [
       | in-Kept k ↦
-          let out = settled_so m c.args.around s _ c.is_empty.result _ (some_row tr.below) c.is_empty.ensures empty k.in-Kept.ensures in
-          let b = output k.build_set-done.new.rows k.build_set-done.new.errors k.build_set-done.new.path_keys k.build_set-done.result in
-          let r : StoredRow = stored_row (stored_in s k.in-Kept.place k.in-Kept.inner) 0 in
+          let out = settled_so m c.args.around s _ c.is_empty-is_leaf.result _ (some_row tr.below) c.is_empty-is_leaf.ensures empty k.in-Kept.ensures in
+          let joined = k.if-not-is_leaf in
+          let b = output joined.rows joined.errors joined.path_keys joined.done in
+          let inner = k.in-Kept.inner in
+          let r : StoredRow = stored_row (stored_in s k.in-Kept.place inner) 0 in
           let p : Path = path_to (path_of c.args.path) s in
-          let is : b ≡ with_set (opened_with o r) (build m k.in-Kept.inner tr.below) (errors-of m p k.in-Kept.inner tr.below) =
-          k.build_set-done.ensures tr.below tr.beneath
-          ∙ ap (λ (x : StoredRow). with_set (opened_with o x) (build m k.in-Kept.inner tr.below) (errors-of m (path_of k.entering.result) k.in-Kept.inner tr.below)) k.open_in.ensures
-          ∙ ap (λ (x : Path). with_set (opened_with o r) (build m k.in-Kept.inner tr.below) (errors-of m x k.in-Kept.inner tr.below)) k.entering.ensures.path
+          let is : b ≡ with_set (opened_with o r) (build m inner tr.below) (errors-of m p inner tr.below) =
+          elim joined.branch [
+            | then-not-is_leaf w ↦
+                same_output w.rows-is w.errors-is w.path_keys-is (ap (λ (x : Filled). x.rows) w.done-is) (ap (λ (x : Filled). x.errors) w.done-is) (ap (λ (x : Filled). x.path_keys) w.done-is)
+                ∙ w.build_set-done.ensures tr.below tr.beneath
+                ∙ ap (λ (x : StoredRow). with_set (opened_with o x) (build m inner tr.below) (errors-of m (path_of w.entering.result) inner tr.below)) k.open_in.ensures
+                ∙ ap (λ (x : Path). with_set (opened_with o r) (build m inner tr.below) (errors-of m x inner tr.below)) w.entering.ensures.path
+            | else-not-is_leaf w ↦
+                let leaf : tr.below ≡ none = no_row tr.below (sym empty ∙ ap not (sym w.if-not-is_leaf.ensures)) in
+                same_output w.rows-is w.errors-is w.path_keys-is (ap (λ (x : Filled). x.rows) w.done-is) (ap (λ (x : Filled). x.errors) w.done-is) (ap (λ (x : Filled). x.path_keys) w.done-is)
+                ∙ ap (λ (x : StoredRow). opened_with o x) k.open_in.ensures
+                ∙ sym (nothing_more (opened_with o r))
+                ∙ ap (λ (f : Forest Selection). with_set (opened_with o r) (build m inner f) (errors-of m p inner f)) (sym leaf)
+          ]
           in
-          let still = ap (λ (x : Output). get_or x.rows o.filled.rows no_stored_row) is ∙ still_open o r no_stored_row (build m k.in-Kept.inner tr.below) (errors-of m p k.in-Kept.inner tr.below) (omega (arith, tr.many, w.room.rows_fit)) in
-          let closed = ap (λ (x : StoredRow). set k.build_set-done.new.rows o.filled.rows (ended x k.build_set-done.result.rows)) still in
+          let still = ap (λ (x : Output). get_or x.rows o.filled.rows no_stored_row) is ∙ still_open o r no_stored_row (build m inner tr.below) (errors-of m p inner tr.below) (omega (arith, tr.many, w.room.rows_fit)) in
+          let closed = ap (λ (x : StoredRow). set joined.rows o.filled.rows (ended x joined.done.rows)) still in
           subst (Left m _ _ _ _ _ _ step.after) (sym (same_output (k.rows-is ∙ closed) k.errors-is k.path_keys-is (ap (λ x. x.rows) k.done-is) (ap (λ x. x.errors) k.done-is) (ap (λ x. x.path_keys) k.done-is)))
-          (kept m _ _ _ _ _ _ even c.loop-step.rest o w step tr k.in-Kept.place k.in-Kept.inner out b is)
+          (kept m _ _ _ _ _ _ even c.loop-step.rest o w step tr k.in-Kept.place inner out b is)
       | in-Dropped k ↦
-          let out = settled_so m c.args.around s _ c.is_empty.result _ (some_row tr.below) c.is_empty.ensures empty k.in-Dropped.ensures in
+          let out = settled_so m c.args.around s _ c.is_empty-is_leaf.result _ (some_row tr.below) c.is_empty-is_leaf.ensures empty k.in-Dropped.ensures in
           subst (Left m _ _ _ _ _ _ step.after) (sym (same_output k.rows-is k.errors-is k.path_keys-is (ap (λ x. x.rows) k.done-is) (ap (λ x. x.errors) k.done-is) (ap (λ x. x.path_keys) k.done-is)))
           (dropped m _ _ _ _ _ _ c.loop-step.rest o w step tr out)
       | in-Faulty k ↦
           let fault = k.in-Faulty.fault in
-          let out = settled_so m c.args.around s _ c.is_empty.result _ (some_row tr.below) c.is_empty.ensures empty k.in-Faulty.ensures in
+          let out = settled_so m c.args.around s _ c.is_empty-is_leaf.result _ (some_row tr.below) c.is_empty-is_leaf.ensures empty k.in-Faulty.ensures in
           let is = k.list_fault-done.ensures c.loop-step.rows ∙ ap (λ (x : Path). with_set o none (error_of fault x c.args.around s ∷ [])) k.entering-in-Faulty.ensures.path in
           subst (Left m _ _ _ _ _ _ step.after) (sym (same_output k.rows-is k.errors-is k.path_keys-is (ap (λ x. x.rows) k.done-is) (ap (λ x. x.errors) k.done-is) (ap (λ x. x.path_keys) k.done-is)))
           (faulty m _ _ _ _ _ _ even c.loop-step.rest o w step tr fault out _ is)
