@@ -1,3 +1,15 @@
 // What is asked of finished documents, said of what is kept: when two of them are the same, and which fields an operation
 // reaches. Each function does nothing; its promise is a theorem.
 #![tactic(auto)]
+
+ghost use Rattle.finished_rules.specs.Answered.{KeptIsAnswered, AnswersFollow};
+
+/// Kept rows have the places and the set types that the schema answers, and kept definitions the types around them.
+pub fn kept_definitions_are_as_answered()
+    ensures { KeptIsAnswered }
+{}
+
+/// Where the members that were handed in agree, so do those that the schema answered.
+pub fn answers_follow_what_was_handed_in()
+    ensures { AnswersFollow }
+{}
