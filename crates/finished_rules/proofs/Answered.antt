@@ -16,7 +16,8 @@ use Rattle.building_rules.proofs.Settling.{field_spread, field_inline, spread_in
 use Rattle.building_rules.proofs.Steps.{Stores, as_anonymous, as_named, as_fragment, Becomes, becomes}
 use Rattle.building_rules.proofs.Storable.{all_join}
 use Rattle.finished_rules.specs.Same.{Alike, SameSelection, SameHead}
-use Rattle.finished_rules.specs.Answered.{Answered, AroundHead, KeptAsAnswered, KeptIsAnswered, SameStored, AnswersFollow}
+use Rattle.finished_rules.specs.SameTables.{SameStored}
+use Rattle.finished_rules.specs.Answered.{Answered, AroundHead, KeptAsAnswered, KeptIsAnswered, AnswersFollow}
 
 -- What is built is as the schema answers
 

@@ -9,7 +9,8 @@ use Rattle.selection_rules.specs.Stored.{Stored}
 use Rattle.building_rules.specs.Definitions.{Accepted, Kept, role_of, operation_of, kept_in}
 use Rattle.building_rules.specs.Rules.{Inside, operation_role, fragment_role}
 use Rattle.building_rules.specs.Keeping.{StoredAs}
-use Rattle.finished_rules.specs.Same.{Alike, SameSelection, SameHead, Same}
+use Rattle.finished_rules.specs.Same.{SameHead, Same}
+use Rattle.finished_rules.specs.SameTables.{SameSets}
 
 -- each of the rows, in the type `around`, is stored as the schema answers, and those beneath it are so in the type inside it
 abbrev pub Answered : Meaning → ℕ → Forest Stored → Type 0
@@ -33,17 +34,11 @@ pub record KeptAsAnswered (m : Meaning) (k : Kept) : Type 0 where
 abbrev pub KeptIsAnswered : Type 0
 KeptIsAnswered = (m : Meaning) (ds : List Accepted) → AllByRecursion (KeptAsAnswered m) (kept_in m ds)
 
--- all stored members of two rows agree, but locations and ends
-pub record SameStored (x y : Stored) : Type 0 where
-  pub selection : SameSelection x.selection y.selection
-  pub place : x.place ≡ y.place
-  pub set_type : x.set_type ≡ y.set_type
-
 -- all stored members of two kept definitions agree, but locations and ranges, and so do those of the rows beneath them
 pub record SameAsStored (k j : Kept) : Type 0 where
   pub heads : SameHead k.head j.head
   pub set_type : k.set_type ≡ j.set_type
-  pub rows : Alike SameStored k.rows j.rows
+  pub rows : SameSets k.rows j.rows
 
 -- over one schema, the members that were handed in tell the others
 abbrev pub AnswersFollow : Type 0

@@ -1,4 +1,6 @@
 -- The definitions that the contracts of the crate cite, in the order in which they are needed.
 pub mod Same
+pub mod SameTables
 pub mod Answered
+pub mod Tables
 pub mod Reaches

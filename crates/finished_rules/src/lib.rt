@@ -3,6 +3,7 @@
 #![tactic(auto)]
 
 ghost use Rattle.finished_rules.specs.Answered.{KeptIsAnswered, AnswersFollow};
+ghost use Rattle.finished_rules.specs.Tables.{TablesReadBack};
 
 /// Kept rows have the places and the set types that the schema answers, and kept definitions the types around them.
 pub fn kept_definitions_are_as_answered()
@@ -12,4 +13,9 @@ pub fn kept_definitions_are_as_answered()
 /// Where the members that were handed in agree, so do those that the schema answered.
 pub fn answers_follow_what_was_handed_in()
     ensures { AnswersFollow }
+{}
+
+/// What is read back from the tables of kept definitions is each of them, by its role and in its order, with its rows.
+pub fn tables_are_read_back()
+    ensures { TablesReadBack }
 {}
