@@ -1,3 +1,5 @@
 -- The lemmas of the crate, in the order in which they are needed.
 pub mod Answered
+pub mod Elements
 pub mod Tables
+pub mod Compared

@@ -3,4 +3,5 @@ pub mod Same
 pub mod SameTables
 pub mod Answered
 pub mod Tables
+pub mod Compared
 pub mod Reaches

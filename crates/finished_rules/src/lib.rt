@@ -4,6 +4,7 @@
 
 ghost use Rattle.finished_rules.specs.Answered.{KeptIsAnswered, AnswersFollow};
 ghost use Rattle.finished_rules.specs.Tables.{TablesReadBack};
+ghost use Rattle.finished_rules.specs.Compared.{TablesCompare};
 
 /// Kept rows have the places and the set types that the schema answers, and kept definitions the types around them.
 pub fn kept_definitions_are_as_answered()
@@ -18,4 +19,10 @@ pub fn answers_follow_what_was_handed_in()
 /// What is read back from the tables of kept definitions is each of them, by its role and in its order, with its rows.
 pub fn tables_are_read_back()
     ensures { TablesReadBack }
+{}
+
+/// Over one schema, the tables of two lists of accepted definitions are the same exactly when each definition that is kept of
+/// either is the same as one that is kept of the other.
+pub fn tables_compare_what_is_kept()
+    ensures { TablesCompare }
 {}
