@@ -3,3 +3,6 @@ pub mod Answered
 pub mod Elements
 pub mod Tables
 pub mod Compared
+pub mod Numbers
+pub mod Entries
+pub mod Reached

@@ -5,3 +5,6 @@ pub mod Answered
 pub mod Tables
 pub mod Compared
 pub mod Reaches
+pub mod ReachesInTables
+pub mod Numbers
+pub mod Reached

@@ -5,6 +5,8 @@
 ghost use Rattle.finished_rules.specs.Answered.{KeptIsAnswered, AnswersFollow};
 ghost use Rattle.finished_rules.specs.Tables.{TablesReadBack};
 ghost use Rattle.finished_rules.specs.Compared.{TablesCompare};
+ghost use Rattle.finished_rules.specs.Numbers.{TablePlaces};
+ghost use Rattle.finished_rules.specs.Reached.{TablesReach};
 
 /// Kept rows have the places and the set types that the schema answers, and kept definitions the types around them.
 pub fn kept_definitions_are_as_answered()
@@ -25,4 +27,15 @@ pub fn tables_are_read_back()
 /// either is the same as one that is kept of the other.
 pub fn tables_compare_what_is_kept()
     ensures { TablesCompare }
+{}
+
+/// Each row that is kept has its place in the table of rows, and each definition that is kept has one entry, in the table of
+/// its role, with the range of its rows.
+pub fn kept_definitions_have_their_places()
+    ensures { TablePlaces }
+{}
+
+/// In tables that hold what is kept, a stored definition reaches the fields that the kept one reaches, at the same places.
+pub fn tables_reach_what_is_kept()
+    ensures { TablesReach }
 {}
