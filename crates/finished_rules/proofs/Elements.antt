@@ -1,13 +1,14 @@
 -- The elements of lists that are mapped and filtered.
 use Rattle.std.proofs.Common.{◌≡◌, zero, suc, Bool, true, false, cond, ◌⊎◌, inl, inr, List, [], ◌∷◌, map, filter, refl, ap, sym, ◌∙◌, subst, ⊎_elim, arith}
 use Rattle.std.specs.List.{AllByRecursion, Contains}
+use Rattle.std.proofs.lemmas.List.Elements.{All-contains, All-from_recursion, Contains-append_right}
 
 module _ {X : Type 0} where
   pub here : (x : X) (xs : List X) → Contains (x ∷ xs) x
   here x xs = (0, omega arith, refl)
 
   pub later : (y x : X) (xs : List X) → Contains xs x → Contains (y ∷ xs) x
-  later y x xs (k, low, at) = (suc k, omega arith, at)
+  later y x xs at = Contains-append_right (y ∷ []) xs x at
 
   pub here_or_later : (y x : X) (xs : List X) → Contains (y ∷ xs) x → (y ≡ x) ⊎ Contains xs x
   here_or_later y x xs (zero, low, at) = inl at
@@ -17,8 +18,7 @@ module _ {X : Type 0} where
   none_there x (k, low, at) = absurd (omega arith)
 
   pub all_there : (P : X → Type 0) (xs : List X) (x : X) → AllByRecursion P xs → Contains xs x → P x
-  all_there P [] x all at = none_there x at
-  all_there P (y ∷ xs) x all at = ⊎_elim (λ (e : y ≡ x). subst P e all.0) (λ rest. all_there P xs x all.1 rest) (here_or_later y x xs at)
+  all_there P xs x all at = All-contains P xs x (All-from_recursion P xs all) at
 
   -- where a list is filtered
   module _ (p : X → Bool) where

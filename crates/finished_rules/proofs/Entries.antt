@@ -1,8 +1,9 @@
 -- Where the entry of each kept definition stands in its table.
-use Rattle.std.proofs.Common.{◌≡◌, ℕ, ◌<◌, Bool, true, ◌⊎◌, inl, inr, List, [], ◌∷◌, length, Some, None, Option, ap, ◌∙◌, subst, ⊎_elim, arith}
+use Rattle.std.proofs.Common.{◌≡◌, ℕ, ◌<◌, Bool, true, ◌⊎◌, inl, inr, List, [], ◌∷◌, map, length, Some, None, Option, ap, ◌∙◌, subst, ⊎_elim, arith}
 use Rattle.std.specs.List.{Contains, slice_index}
 use Rattle.std.proofs.lemmas.List.{get_or-map, get_or_default, length-map}
 use Rattle.std.proofs.lemmas.List.Elements.{Contains-get_or}
+use Rattle.selection_rules.specs.Stored.{stored_of}
 use Rattle.building_rules.specs.Definitions.{Kept, Role}
 use Rattle.building_rules.specs.Rules.{anonymous_role, named_role, fragment_role}
 use Rattle.stored_tables.specs.declared.definition.StoredDefinition.{StoredDefinition}
@@ -53,12 +54,12 @@ anonymous_at ks s e =
     (from.0, record { there = two.0; role = two.1; laid = laid })
 
 pub table_places : TablePlaces
-table_places ks =
+table_places ks d holds =
     record {
-      rows = table_rows 0 ks;
+      rows = ap (map stored_of) holds.rows ∙ table_rows 0 ks;
       ranges = range_end ks;
       numbered = λ test. numbered test ks;
-      operations = entry_at named_role ks;
-      fragments = entry_at fragment_role ks;
-      anonymous = anonymous_at ks;
+      operations = rw holds.operations (entry_at named_role ks);
+      fragments = rw holds.fragments (entry_at fragment_role ks);
+      anonymous = rw holds.anonymous (anonymous_at ks);
     }

@@ -110,7 +110,7 @@ module _ (ks : List Kept) (d : StoredDocument) (rows : d.rows.now ≡ rows_of 0 
       }
 
 pub tables_reach : TablesReach
-tables_reach ks d rows fragments test s n at p = (
-  λ r. reaches_kept ks d rows fragments n p at.there (subst (λ (x : StoredDefinition). Reaches d x p) at.laid r),
-  λ r. subst (λ (x : StoredDefinition). Reaches d x p) (sym at.laid) (reaches_stored ks d rows fragments n p r),
+tables_reach ks d holds test s n at p = (
+  λ r. reaches_kept ks d holds.rows holds.fragments n p at.there (subst (λ (x : StoredDefinition). Reaches d x p) at.laid r),
+  λ r. subst (λ (x : StoredDefinition). Reaches d x p) (sym at.laid) (reaches_stored ks d holds.rows holds.fragments n p r),
 )

@@ -8,7 +8,7 @@ use Rattle.selection_rules.specs.declared.stored.StoredRow.{StoredRow}
 use Rattle.selection_rules.specs.Stored.{stored_row, stored_selections}
 use Rattle.building_rules.specs.Definitions.{Kept, Role, anonymous_operation, named_operation, fragment, type_system, role_of}
 use Rattle.building_rules.specs.Rules.{anonymous_role, named_role, fragment_role}
-use Rattle.building_rules.specs.Storable.{AllStorable, kept_named}
+use Rattle.building_rules.specs.Storable.{kept_named}
 use Rattle.stored_tables.specs.declared.definition.StoredDefinition.{StoredDefinition}
 use Rattle.stored_tables.specs.Layout.{laid_out, rows_of, those_of, latest}
 use Rattle.stored_tables.specs.Verdict.{alone}
@@ -56,16 +56,14 @@ alone_latest [] few = refl
 alone_latest (d ∷ []) few = refl
 alone_latest (d ∷ e ∷ ds) few = absurd (omega arith)
 
--- the anonymous operation that is laid out is the only one
-pub one_anonymous : (ks : List Kept) → AllStorable ks → alone (latest None (those_of anonymous_role 0 ks)) ≡ those_of anonymous_role 0 ks
-one_anonymous ks storable = alone_latest (those_of anonymous_role 0 ks) (omega (arith, few_unnamed 0 ks, storable.anonymous 0))
-
 pub tables_read_back : TablesReadBack
-tables_read_back ks storable =
+tables_read_back ks d storable holds =
     let rows = rows_of 0 ks in
     let at : RestIs rows 0 ks = record { reads = refl; ends = omega arith } in
+    let lone : alone d.anonymous ≡ those_of anonymous_role 0 ks =
+    ap alone holds.anonymous ∙ alone_latest (those_of anonymous_role 0 ks) (omega (arith, few_unnamed 0 ks, storable.anonymous 0)) in
     record {
-      anonymous = ap (map (read_back rows)) (one_anonymous ks storable) ∙ those_back rows anonymous_role 0 ks at;
-      operations = those_back rows named_role 0 ks at;
-      fragments = those_back rows fragment_role 0 ks at;
+      anonymous = rw (holds.rows, lone) (those_back rows anonymous_role 0 ks at);
+      operations = rw (holds.rows, holds.operations) (those_back rows named_role 0 ks at);
+      fragments = rw (holds.rows, holds.fragments) (those_back rows fragment_role 0 ks at);
     }

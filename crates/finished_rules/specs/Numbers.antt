@@ -1,5 +1,5 @@
 -- Where in the tables a kept definition stands, told by its number among all that are kept, and where a kept row does.
-use Rattle.std.specs.Prelude.{◌≡◌, ℕ, suc, ◌<◌, Bool, true, ◌↔◌, List, map, filter, length, take, Contains, slice_index, Some, None}
+use Rattle.std.specs.Prelude.{◌≡◌, ℕ, suc, ◌<◌, Bool, true, ◌↔◌, List, map, filter, length, take, Contains, slice_index, Some}
 use Rattle.std.specs.List.{range_with_len}
 use Rattle.std.specs.List.Sorted.{IsStrictlyIncreasing}
 use Rattle.selection_rules.specs.Stored.{stored_of}
@@ -7,8 +7,10 @@ use Rattle.building_rules.specs.Definitions.{Kept, Role, role_of}
 use Rattle.building_rules.specs.Rules.{anonymous_role, named_role, fragment_role}
 use Rattle.building_rules.specs.Bounds.{rows_kept}
 use Rattle.stored_tables.specs.declared.definition.StoredDefinition.{StoredDefinition}
-use Rattle.stored_tables.specs.Layout.{laid_out, rows_of, those_of, operations_of, fragments_of, anonymous_of}
+use Rattle.stored_tables.specs.declared.stored.StoredDocument.{StoredDocument}
+use Rattle.stored_tables.specs.Layout.{laid_out, those_of}
 use Rattle.stored_tables.specs.Verdict.{definition_at}
+use Rattle.finished_rules.specs.Tables.{HoldsKept}
 use Rattle.finished_rules.specs.Reaches.{kept_rows, kept_at}
 
 -- the kept definition with a number, as it stands in a table: its rows begin behind those of the definitions before it
@@ -35,16 +37,16 @@ pub record EntryOf (test : Role → Bool) (ks : List Kept) (s : StoredDefinition
   pub role : has_role test ks n ≡ true
   pub laid : s ≡ entry ks n
 
--- the places of the tables of kept definitions are those of what is kept
-pub record PlacesAre (ks : List Kept) : Type 0 where
+-- the places of tables that hold the kept definitions
+pub record PlacesAre (ks : List Kept) (d : StoredDocument) : Type 0 where
   -- a row's place in the table is its place among all kept rows
-  pub rows : map stored_of (rows_of 0 ks) ≡ kept_rows ks
+  pub rows : map stored_of d.rows.now ≡ kept_rows ks
   -- a definition's range ends where the next one's begins
   pub ranges : (n : ℕ) → n < length ks → (entry ks n).row.end ≡ rows_kept (take (suc n) ks)
   pub numbered : (test : Role → Bool) → Numbered test ks
-  pub operations : (i : ℕ) → i < length (operations_of 0 ks) → EntryOf named_role ks (definition_at (operations_of 0 ks) i) (slice_index (numbers named_role ks) i)
-  pub fragments : (i : ℕ) → i < length (fragments_of 0 ks) → EntryOf fragment_role ks (definition_at (fragments_of 0 ks) i) (slice_index (numbers fragment_role ks) i)
-  pub anonymous : (s : StoredDefinition) → anonymous_of None 0 ks ≡ Some s → (n : ℕ) × EntryOf anonymous_role ks s n
+  pub operations : (i : ℕ) → i < length d.operations.now → EntryOf named_role ks (definition_at d.operations.now i) (slice_index (numbers named_role ks) i)
+  pub fragments : (i : ℕ) → i < length d.fragments.now → EntryOf fragment_role ks (definition_at d.fragments.now i) (slice_index (numbers fragment_role ks) i)
+  pub anonymous : (s : StoredDefinition) → d.anonymous ≡ Some s → (n : ℕ) × EntryOf anonymous_role ks s n
 
 abbrev pub TablePlaces : Type 0
-TablePlaces = (ks : List Kept) → PlacesAre ks
+TablePlaces = (ks : List Kept) (d : StoredDocument) → HoldsKept ks d → PlacesAre ks d

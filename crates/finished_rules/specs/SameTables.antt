@@ -1,10 +1,11 @@
--- When what stands in two pairs of tables is the same: in all members but locations, firsts and ends.
+-- When two documents that stand in tables are the same: in all members but locations, firsts and ends.
 use Rattle.std.specs.Prelude.{◌≡◌, List, Contains, Some, None, Option}
 use Rattle.layout.specs.Forest.{Forest}
 use Rattle.layout.specs.Shapes.{forest_in}
 use Rattle.selection_rules.specs.declared.stored.StoredRow.{StoredRow}
 use Rattle.selection_rules.specs.Stored.{Stored, stored_selections}
 use Rattle.stored_tables.specs.declared.definition.StoredDefinition.{StoredDefinition}
+use Rattle.stored_tables.specs.declared.stored.StoredDocument.{StoredDocument}
 use Rattle.stored_tables.specs.Layout.{stored_head}
 use Rattle.finished_rules.specs.Same.{Alike, SameSelection, SameHead}
 
@@ -43,3 +44,9 @@ SameAnonymous rows others (Some d) (Some e) = SameDefinition rows others d e
 pub record SameTables (rows others : List StoredRow) (ds es : List StoredDefinition) : Type 0 where
   pub one : (d : StoredDefinition) → Contains ds d → (e : StoredDefinition) × Contains es e × SameDefinition rows others d e
   pub other : (e : StoredDefinition) → Contains es e → (d : StoredDefinition) × Contains ds d × SameDefinition rows others d e
+
+-- two documents are the same
+pub record SameDocuments (a b : StoredDocument) : Type 0 where
+  pub anonymous : SameAnonymous a.rows.now b.rows.now a.anonymous b.anonymous
+  pub operations : SameTables a.rows.now b.rows.now a.operations.now b.operations.now
+  pub fragments : SameTables a.rows.now b.rows.now a.fragments.now b.fragments.now
