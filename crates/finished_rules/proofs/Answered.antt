@@ -17,7 +17,7 @@ use Rattle.building_rules.proofs.Steps.{Stores, as_anonymous, as_named, as_fragm
 use Rattle.building_rules.proofs.Storable.{all_join}
 use Rattle.finished_rules.specs.Same.{Alike, SameSelection, SameHead}
 use Rattle.finished_rules.specs.SameTables.{SameStored}
-use Rattle.finished_rules.specs.Answered.{Answered, AroundHead, KeptAsAnswered, KeptIsAnswered, AnswersFollow}
+use Rattle.finished_rules.specs.Answered.{Answered, RowsFollow, AroundHead, KeptAsAnswered, KeptIsAnswered, AnswersFollow}
 
 -- What is built is as the schema answers
 
@@ -30,7 +30,7 @@ module _ (m : Meaning) where
   row_answered around s below after w (drops e unfit) lower next = next
   row_answered around s below after w (faults fault unfit) lower next = next
 
-  build_answered : (around : ℕ) (f : Forest Selection) → Answered m around (build m around f)
+  pub build_answered : (around : ℕ) (f : Forest Selection) → Answered m around (build m around f)
   build_answered around none = tt
   build_answered around (row s below after) =
       row_answered around s below after (settled_in m around s (some_row below)) (view m around s below) (λ inner. build_answered inner below) (build_answered around after)
@@ -109,16 +109,16 @@ abbrev Handed : Stored → Stored → Type 0
 Handed x y = SameSelection x.selection y.selection
 
 module _ (m : Meaning) where
-  rows_follow : (around : ℕ) (f g : Forest Stored) → Answered m around f → Answered m around g → Alike Handed f g → Alike SameStored f g
-  rows_follow around none none a b same = tt
-  rows_follow around none (row y under beyond) a b same = absurd same
-  rows_follow around (row x below after) none a b same = absurd same
-  rows_follow around (row x below after) (row y under beyond) a b same =
+  rows_stored : (around : ℕ) (f g : Forest Stored) → Answered m around f → Answered m around g → Alike Handed f g → Alike SameStored f g
+  rows_stored around none none a b same = tt
+  rows_stored around none (row y under beyond) a b same = absurd same
+  rows_stored around (row x below after) none a b same = absurd same
+  rows_stored around (row x below after) (row y under beyond) a b same =
       let two = one_stored m around x.selection y.selection same.0 x y a.0 b.0 in
       let inner : b.1.0 ≡ a.1.0 = sym (one_inside m around x.selection y.selection same.0 a.1.0 b.1.0 a.1.1 b.1.1) in (
         record { selection = same.0; place = two.0; set_type = two.1 },
-        rows_follow a.1.0 below under a.1.2 (subst (λ (n : ℕ). Answered m n under) inner b.1.2) same.1,
-        rows_follow around after beyond a.2 b.2 same.2,
+        rows_stored a.1.0 below under a.1.2 (subst (λ (n : ℕ). Answered m n under) inner b.1.2) same.1,
+        rows_stored around after beyond a.2 b.2 same.2,
       )
 
 rows_handed : (f g : Forest Stored) → Alike SameStored f g → Alike Handed f g
@@ -127,6 +127,9 @@ rows_handed none (row y under beyond) same = absurd same
 rows_handed (row x below after) none same = absurd same
 rows_handed (row x below after) (row y under beyond) same =
     (same.0.selection, rows_handed below under same.1, rows_handed after beyond same.2)
+
+pub rows_follow : RowsFollow
+rows_follow m around f g a b = (rows_stored m around f g a b, rows_handed f g)
 
 -- heads that are the same have one role, one operation type and one condition
 pub same_role : (h k : Head) → SameHead h k → role_of h ≡ role_of k
@@ -154,7 +157,7 @@ answers_follow m k j a b = (
       record {
         heads = same.heads;
         set_type = type;
-        rows = rows_follow m k.set_type k.rows j.rows a.rows (subst (λ (n : ℕ). Answered m n j.rows) (sym type) b.rows) same.rows;
+        rows = rows_stored m k.set_type k.rows j.rows a.rows (subst (λ (n : ℕ). Answered m n j.rows) (sym type) b.rows) same.rows;
       },
   λ same. record { heads = same.heads; rows = rows_handed k.rows j.rows same.rows },
 )

@@ -53,10 +53,10 @@ counts_next a s k ks at start c =
     }
 
 module _ (test : Role → Bool) (at : ℕ → Kept) (start : ℕ → ℕ) where
-  entry_step : (b : Bool) (d e : StoredDefinition) (n : ℕ) (ds : List StoredDefinition) (ns : List ℕ) → d ≡ laid_out (start n) (at n) → ds ≡ map (λ i. laid_out (start i) (at i)) ns
+  entry_step : (b : Bool) (d : StoredDefinition) (n : ℕ) (ds : List StoredDefinition) (ns : List ℕ) → d ≡ laid_out (start n) (at n) → ds ≡ map (λ i. laid_out (start i) (at i)) ns
       → cond b (d ∷ ds) ds ≡ map (λ i. laid_out (start i) (at i)) (cond b (n ∷ ns) ns)
-  entry_step true d e n ds ns is are = rw (is, are) refl
-  entry_step false d e n ds ns is are = are
+  entry_step true d n ds ns is are = rw (is, are) refl
+  entry_step false d n ds ns is are = are
 
   those_numbered : (a s : ℕ) (ks : List Kept) → Counts a s ks at start
       → those_of test s ks ≡ map (λ i. laid_out (start i) (at i)) (filter (λ i. test (role_of (at i).head)) (range_with_len a (length ks)))
@@ -68,7 +68,7 @@ module _ (test : Role → Bool) (at : ℕ → Kept) (start : ℕ → ℕ) where
       let rest = those_numbered (a + 1) (s + size k.rows) ks (counts_next a s k ks at start c) in
       let one : laid_out s k ≡ laid_out (start a) (at a) = rw (own, begins) refl in
       let role : test (role_of (at a).head) ≡ test (role_of k.head) = ap (λ x. test (role_of x.head)) own in
-      entry_step (test (role_of k.head)) (laid_out s k) (laid_out s k) a (those_of test (s + size k.rows) ks) (filter (λ i. test (role_of (at i).head)) (range_with_len (a + 1) (length ks))) one rest
+      entry_step (test (role_of k.head)) (laid_out s k) a (those_of test (s + size k.rows) ks) (filter (λ i. test (role_of (at i).head)) (range_with_len (a + 1) (length ks))) one rest
       ∙ ap (λ b. map (λ i. laid_out (start i) (at i)) (cond b (a ∷ filter (λ i. test (role_of (at i).head)) (range_with_len (a + 1) (length ks))) (filter (λ i. test (role_of (at i).head)) (range_with_len (a + 1) (length ks))))) (sym role)
 
 in_range : (a n i : ℕ) → i < n → Contains (range_with_len a n) (a + i)

@@ -31,13 +31,13 @@ module _ (ks : List Kept) (d : StoredDocument) (rows : d.rows.now ≡ rows_of 0 
   beneath_stored n p b = let end = range_end ks n b.there in (b.low, omega (arith, end, b.high))
 
   -- a chain of spreads in tables is one of what is kept, and ends in the same definition
-  record Kept_chain (s : StoredDefinition) (n : ℕ) : Type 0 where
+  record KeptChain (s : StoredDefinition) (n : ℕ) : Type 0 where
     chain : List ℕ
     holds : kept.Chain ks n chain
     there : kept.last_of n chain < length ks
     ends : s ≡ entry ks (kept.last_of n chain)
 
-  to_kept : (fs : List ℕ) (s : StoredDefinition) (n : ℕ) → s ≡ entry ks n → n < length ks → Chain d s fs → Kept_chain (last_of d s fs) n
+  to_kept : (fs : List ℕ) (s : StoredDefinition) (n : ℕ) → s ≡ entry ks n → n < length ks → Chain d s fs → KeptChain (last_of d s fs) n
   to_kept [] s n is low holds = record { chain = []; holds = tt; there = low; ends = is }
   to_kept (f ∷ fs) s n is low holds =
       let p = holds.0.0 in
@@ -62,12 +62,12 @@ module _ (ks : List Kept) (d : StoredDocument) (rows : d.rows.now ≡ rows_of 0 
         ends = rest.ends;
       }
 
-  record Stored_chain (s : StoredDefinition) (n : ℕ) : Type 0 where
+  record StoredChain (s : StoredDefinition) (n : ℕ) : Type 0 where
     chain : List ℕ
     holds : Chain d s chain
     ends : last_of d s chain ≡ entry ks n
 
-  to_stored : (gs : List ℕ) (s : StoredDefinition) (n : ℕ) → s ≡ entry ks n → kept.Chain ks n gs → Stored_chain s (kept.last_of n gs)
+  to_stored : (gs : List ℕ) (s : StoredDefinition) (n : ℕ) → s ≡ entry ks n → kept.Chain ks n gs → StoredChain s (kept.last_of n gs)
   to_stored [] s n is holds = record { chain = []; holds = tt; ends = is }
   to_stored (g ∷ gs) s n is holds =
       let p = holds.0.0 in

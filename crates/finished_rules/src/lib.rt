@@ -2,7 +2,7 @@
 // reaches. Each function does nothing; its promise is a theorem.
 #![tactic(auto)]
 
-ghost use Rattle.finished_rules.specs.Answered.{KeptIsAnswered, AnswersFollow};
+ghost use Rattle.finished_rules.specs.Answered.{BuildIsAnswered, RowsFollow, KeptIsAnswered, AnswersFollow};
 ghost use Rattle.finished_rules.specs.Tables.{TablesReadBack};
 ghost use Rattle.finished_rules.specs.Compared.{TablesCompare};
 ghost use Rattle.finished_rules.specs.Numbers.{TablePlaces};
@@ -10,12 +10,12 @@ ghost use Rattle.finished_rules.specs.Reached.{TablesReach};
 
 /// Kept rows have the places and the set types that the schema answers, and kept definitions the types around them.
 pub fn kept_definitions_are_as_answered()
-    ensures { KeptIsAnswered }
+    ensures { BuildIsAnswered × KeptIsAnswered }
 {}
 
 /// Where the members that were handed in agree, so do those that the schema answered.
 pub fn answers_follow_what_was_handed_in()
-    ensures { AnswersFollow }
+    ensures { RowsFollow × AnswersFollow }
 {}
 
 /// What is read back from the tables of kept definitions is each of them, by its role and in its order, with its rows.
