@@ -2,7 +2,6 @@
 use Rattle.std.specs.Prelude.{◌≡◌, ℕ, suc, ◌≤◌, ◌<◌, true, List, [], ◌∷◌, ◌++◌, length, take, slice_index_or}
 use Rattle.layout.specs.Forest.{Forest, none, row}
 use Rattle.document.specs.Rows.{is_field, is_spread}
-use Rattle.document.specs.Rows.{Selection, Head}
 use Rattle.selection_rules.specs.Stored.{Stored}
 use Rattle.building_rules.specs.Definitions.{Kept, role_of}
 use Rattle.building_rules.specs.Rules.{fragment_role}

@@ -3,7 +3,6 @@
 use Rattle.std.specs.Prelude.{◌≡◌, List, Contains}
 use Rattle.layout.specs.Forest.{Forest, none, row}
 use Rattle.document.specs.Rows.{Selection, Head}
-use Rattle.selection_rules.specs.Stored.{Stored}
 use Rattle.building_rules.specs.Definitions.{Kept}
 
 -- two forests of as many rows, of which each and its counterpart are related, and so are the rows beneath them

@@ -1,0 +1,5 @@
+use Rattle.finished_rules.proofs.Answered.{rows_follow, answers_follow}
+use Rattle.finished_rules.proofs.answers_follow_what_was_handed_in.Goals as goal
+
+pub returns : goal.returns
+returns c = (rows_follow, answers_follow)
