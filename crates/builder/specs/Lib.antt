@@ -12,3 +12,4 @@ pub mod Lent
 pub mod Beginning
 pub mod Reading
 pub mod Certificate
+pub mod Finished

@@ -11,8 +11,10 @@ ghost use Rattle.builder.specs.Adding.{held_in, Answers, after_adding};
 ghost use Rattle.builder.specs.Beginning.{Begins};
 ghost use Rattle.builder.specs.Reading.{keys_between};
 ghost use Rattle.builder.specs.Certificate.{Stands, IsKept, called, NeverStale, ReadsPath};
+ghost use Rattle.builder.specs.Finished.{Finished};
 ghost use Rattle.builder.specs.Lent.{SameTables, SameFurtherSlots, Untouched};
 
+use crate::executable::ExecutableDocument;
 use crate::fault::BuilderFault;
 use crate::filled::Filled;
 use crate::limits::INDEX_SLOTS;
@@ -112,6 +114,24 @@ impl<'s, S: Schema> ExecutableDocumentBuilder<'s, S> {
             tables.path_keys,
         );
         Ok(())
+    }
+
+    /// The finished document, of what is stored by now. The builder is used up.
+    pub fn build(self) -> ExecutableDocument<'s, S>
+        ensures schema { result.schema ≡ self.entry.schema }
+        ensures operations { result.operations ≡ self.entry.progress.operations }
+        ensures fragments { result.fragments ≡ self.entry.progress.fragments }
+        ensures rows { result.rows ≡ self.entry.progress.filled.rows }
+        ensures anonymous { result.anonymous ≡ self.entry.progress.anonymous }
+        ensures calls { (m : Meaning) (calls : List Call) (tables : Tables) → Stands S.Schema.meaning m calls self.entry tables → Finished S.Schema.meaning m calls result tables }
+    {
+        ExecutableDocument {
+            schema: self.schema,
+            operations: self.progress.operations,
+            fragments: self.progress.fragments,
+            rows: self.progress.filled.rows,
+            anonymous: self.progress.anonymous,
+        }
     }
 
     /// Whether errors are listed.

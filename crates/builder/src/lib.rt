@@ -2,6 +2,7 @@
 #![tactic(auto)]
 
 mod builder;
+mod executable;
 mod fault;
 mod filled;
 mod judge;
@@ -15,6 +16,7 @@ mod store;
 mod take;
 
 pub use builder::ExecutableDocumentBuilder;
+pub use executable::ExecutableDocument;
 pub use fault::BuilderFault;
 pub use limits::{
     INDEX_SLOTS, MAX_ERRORS, MAX_FRAGMENTS, MAX_OPERATIONS, MAX_PATH_KEYS, MAX_STORED_ROWS,
