@@ -1,0 +1,2 @@
+-- Lemmas, by topic.
+pub mod Turns

@@ -1,0 +1,4 @@
+-- The definitions that the contracts of the crate cite, in the order in which they are needed.
+pub mod SameTables
+pub mod Ranged
+pub mod Comparing
