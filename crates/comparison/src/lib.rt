@@ -3,11 +3,11 @@
 // Definitions are matched by name, with the index of the other document; their rows are compared set by set.
 #![tactic(auto)]
 
-mod compare;
+mod documents;
 mod fault;
 mod members;
 mod sets;
 mod tables;
 
-pub use compare::compare;
+pub use documents::compare;
 pub use fault::CompareFault;
