@@ -51,8 +51,15 @@ pub record Ready (t : DefinitionTable) : Type 0 where
   pub indexed : Sound same_name name_hash (map name_of t.definitions.now) t.slots.now
   pub ranged : All (RangedIn t.rows.now) t.definitions.now
 
+-- the named operations of a document, and its fragments, as tables
+abbrev pub operation_table : IndexedDocument → DefinitionTable
+operation_table d = record { definitions = d.stored.operations; slots = d.operation_slots; rows = d.stored.rows }
+
+abbrev pub fragment_table : IndexedDocument → DefinitionTable
+fragment_table d = record { definitions = d.stored.fragments; slots = d.fragment_slots; rows = d.stored.rows }
+
 -- a document whose tables are in order
 pub record ReadyDocument (d : IndexedDocument) : Type 0 where
   pub anonymous : RangedIf d.stored.rows.now d.stored.anonymous
-  pub operations : Ready (record { definitions = d.stored.operations; slots = d.operation_slots; rows = d.stored.rows })
-  pub fragments : Ready (record { definitions = d.stored.fragments; slots = d.fragment_slots; rows = d.stored.rows })
+  pub operations : Ready (operation_table d)
+  pub fragments : Ready (fragment_table d)

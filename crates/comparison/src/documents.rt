@@ -1,15 +1,17 @@
 // Whether two finished documents are the same.
-ghost use Rattle.std.specs.Prelude.{Decides};
+ghost use Rattle.std.specs.Prelude.{◌≡◌, Decides};
 ghost use Rattle.comparison.specs.SameTables.{SameDocuments};
 ghost use Rattle.comparison.specs.Comparing.{Compares};
-ghost use Rattle.comparison.specs.Ranged.{ReadyDocument};
+ghost use Rattle.comparison.specs.Ranged.{ReadyDocument, operation_table, fragment_table};
 
 use crate::fault::CompareFault;
 use crate::tables::{DefinitionTable, same_anonymous, same_table};
 use finished_tables::IndexedDocument;
 
 // The named operations of a document as a table.
-fn operations<'t>(document: &IndexedDocument<'t>) -> DefinitionTable<'t> {
+fn operations<'t>(document: &IndexedDocument<'t>) -> DefinitionTable<'t>
+    ensures { result ≡ operation_table document.now }
+{
     DefinitionTable {
         definitions: document.stored.operations,
         slots: document.operation_slots,
@@ -18,7 +20,9 @@ fn operations<'t>(document: &IndexedDocument<'t>) -> DefinitionTable<'t> {
 }
 
 // The fragments of a document as a table.
-fn fragments<'t>(document: &IndexedDocument<'t>) -> DefinitionTable<'t> {
+fn fragments<'t>(document: &IndexedDocument<'t>) -> DefinitionTable<'t>
+    ensures { result ≡ fragment_table document.now }
+{
     DefinitionTable {
         definitions: document.stored.fragments,
         slots: document.fragment_slots,
