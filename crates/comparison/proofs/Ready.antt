@@ -1,9 +1,8 @@
 -- A document without a fault, whose indexes fit, has its tables in order: the rows in the range of each definition are those
 -- of a forest.
-use Rattle.std.proofs.Common.{◌≡◌, ℕ, zero, suc, ◌+◌, ◌<◌, ◌≤◌, Bool, false, cond, List, [], ◌∷◌, ◌++◌, map, length, get_or, All, Some, None, Option, sym, refl, ap, ◌∙◌, ⊎_elim, arith}
+use Rattle.std.proofs.Common.{◌≡◌, ℕ, zero, suc, ◌+◌, ◌<◌, Bool, false, cond, List, [], ◌∷◌, ◌++◌, map, length, get_or, All, Some, None, Option, sym, refl, ap, ◌∙◌, ⊎_elim, arith}
 use Rattle.std.specs.List.{Contains, list_any}
 use Rattle.std.proofs.lemmas.Bool.{cases_Bool, or_parts, false≢true}
-use Rattle.std.proofs.lemmas.List.{get_or_default}
 use Rattle.std.proofs.lemmas.List.Elements.{Contains-get_or, Contains-append_left, Contains-append_right}
 use Rattle.std.proofs.lemmas.List.Folds.{list_any_at}
 use Rattle.refusal.proofs.Firsts.{or_else_none}
@@ -17,7 +16,7 @@ use Rattle.selection_rules.specs.Stored.{stored_selections, stored_rules, stored
 use Rattle.stored_tables.specs.declared.definition.StoredDefinition.{StoredDefinition}
 use Rattle.stored_tables.specs.declared.fault.StoredFault.{StoredFault}
 use Rattle.stored_tables.specs.declared.fault.StoredFault.TheVariants.{InAnonymous, InOperations, InFragments, InRows}
-use Rattle.stored_tables.specs.Verdict.{first_place, no_stored_definition, definition_at, whole_as, anonymous_whole, misplaced, broken_definition, anonymous_broken, unfit, stray, unfit_in, broken_row, alone, all_stored, told_in, stored_fault}
+use Rattle.stored_tables.specs.Verdict.{first_place, whole_as, anonymous_broken, unfit, stray, unfit_in, broken_row, alone, all_stored, told_in, stored_fault}
 use Rattle.stored_tables.specs.Ranges.{Placed, InOrder}
 use Rattle.stored_tables.proofs.Places.{no_place, place_none, place_of}
 use Rattle.stored_tables.proofs.Following.{in_place, clean_in_order}
@@ -25,7 +24,7 @@ use Rattle.stored_tables.proofs.Misfits.{unfit_places}
 use Rattle.finished_tables.specs.declared.indexed.IndexedDocument.{IndexedDocument}
 use Rattle.finished_tables.specs.Indexes.{HasIndexes}
 use Rattle.comparison.specs.Comparing.{fault_of}
-use Rattle.comparison.specs.Ranged.{no_stored_row, Ranged, RangedIn, RangedIf, ReadyDocument}
+use Rattle.comparison.specs.Ranged.{no_stored_row, RangedIn, RangedIf, ReadyDocument}
 
 no_told : (told : ℕ → StoredFault) (place : Option ℕ) → told_in told place ≡ None → place ≡ None
 no_told told None is = refl

@@ -1,10 +1,10 @@
 -- Two sets are the same exactly where their first rows are, each with the set beneath it, and what is left of both.
-use Rattle.std.proofs.Common.{◌≡◌, ℕ, ◌+◌, ◌<◌, ◌≤◌, List, length, sym, refl, ap, ◌∙◌, arith}
+use Rattle.std.proofs.Common.{◌≡◌, ℕ, ◌+◌, ◌<◌, ◌≤◌, List, length, arith}
 use Rattle.layout.specs.Forest.{Forest, none, row, size}
 use Rattle.layout.specs.Shapes.{Stand, forest_in}
 use Rattle.layout.proofs.Tables.{forest_read, Opened, opened}
 use Rattle.selection_rules.specs.declared.stored.StoredRow.{StoredRow}
-use Rattle.selection_rules.specs.Stored.{Stored, stored_of, stored_selections}
+use Rattle.selection_rules.specs.Stored.{Stored, stored_selections}
 use Rattle.comparison.specs.SameTables.{SameSets}
 use Rattle.comparison.specs.Ranged.{no_stored_row, row_at, Ranged, Rooted, SameAt}
 

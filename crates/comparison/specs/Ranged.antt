@@ -1,6 +1,6 @@
 -- What the comparison asks of two tables, once both documents are checked: that rows are those of a forest, and that the
 -- slots are the index of the names.
-use Rattle.std.specs.Prelude.{◌≡◌, ℕ, ◌+◌, ◌<◌, ◌≤◌, List, map, length, All, Some, None, Option, slice_index_or}
+use Rattle.std.specs.Prelude.{ℕ, ◌+◌, ◌<◌, ◌≤◌, List, map, length, All, Some, None, Option, slice_index_or}
 use Rattle.ordered_index.specs.Keys.{same_name, name_hash}
 use Rattle.ordered_index.specs.Sound.{Sound}
 use Rattle.layout.specs.Forest.{Forest}
@@ -35,8 +35,8 @@ pub record Rooted (rows : List StoredRow) (k : ℕ) : Type 0 where
 pub record SameAt (rows : List StoredRow) (k : ℕ) (others : List StoredRow) (j : ℕ) : Type 0 where
   pub row : SameStored (stored_of (row_at rows k)) (stored_of (row_at others j))
   pub beneath :
-    SameSets (forest_in stored_selections rows (k + 1) (row_at rows k).selection.end)
-    (forest_in stored_selections others (j + 1) (row_at others j).selection.end)
+      SameSets (forest_in stored_selections rows (k + 1) (row_at rows k).selection.end)
+      (forest_in stored_selections others (j + 1) (row_at others j).selection.end)
 
 -- the rows in the range of a definition are those of a forest
 abbrev pub RangedIn : List StoredRow → StoredDefinition → Type 0

@@ -1,5 +1,6 @@
 // Whether two finished documents are the same.
 ghost use Rattle.std.specs.Prelude.{◌≡◌, Decides};
+ghost use Rattle.finished_tables.specs.Indexes.{HasIndexes};
 ghost use Rattle.comparison.specs.SameTables.{SameDocuments};
 ghost use Rattle.comparison.specs.Comparing.{Compares};
 ghost use Rattle.comparison.specs.Ranged.{ReadyDocument, operation_table, fragment_table};
@@ -30,6 +31,13 @@ fn fragments<'t>(document: &IndexedDocument<'t>) -> DefinitionTable<'t>
     }
 }
 
+// Whether the indexes of both documents are those of their stored names.
+fn have_indexes(a: &IndexedDocument<'_>, b: &IndexedDocument<'_>) -> bool
+    ensures { Decides result (HasIndexes a.now × HasIndexes b.now) }
+{
+    a.has_indexes() && b.has_indexes()
+}
+
 // Whether two documents are the same whose tables are in order.
 fn same_documents(a: &IndexedDocument<'_>, b: &IndexedDocument<'_>) -> bool
     requires first { ReadyDocument a.now }
@@ -53,7 +61,7 @@ pub fn compare(a: &IndexedDocument<'_>, b: &IndexedDocument<'_>) -> Result<bool,
 {
     a.stored.check().map_err(CompareFault::First)?;
     b.stored.check().map_err(CompareFault::Second)?;
-    if !(a.has_indexes() && b.has_indexes()) {
+    if !have_indexes(a, b) {
         return Err(CompareFault::IndexUnfit);
     }
     Ok(same_documents(a, b))

@@ -6,7 +6,7 @@ ghost use Rattle.comparison.specs.SameTables.{SameStored, SameMembers};
 use selection_rules::StoredRow;
 use stored_tables::StoredDefinition;
 
-/// Whether two definitions agree beside their rows.
+// Whether two definitions agree beside their rows.
 pub fn same_members(a: &StoredDefinition, b: &StoredDefinition) -> bool
     ensures { Decides result (SameMembers a.now b.now) }
 {
@@ -19,7 +19,7 @@ pub fn same_members(a: &StoredDefinition, b: &StoredDefinition) -> bool
         && a.set_type == b.set_type
 }
 
-/// Whether two rows agree beside the rows beneath them.
+// Whether two rows agree beside the rows beneath them.
 pub fn same_selection(a: &StoredRow, b: &StoredRow) -> bool
     ensures { Decides result (SameStored (stored_of a.now) (stored_of b.now)) }
 {

@@ -8,7 +8,7 @@ ghost use Rattle.comparison.specs.Ranged.{Ranged, Rooted, SameAt};
 use crate::members::same_selection;
 use selection_rules::StoredRow;
 
-/// A set of a table: its rows stand from `first` up to `end`.
+// A set of a table: its rows stand from `first` up to `end`.
 #[derive(Clone, Copy)]
 pub struct RowSet<'t> {
     pub rows: &'t [StoredRow],
@@ -16,7 +16,7 @@ pub struct RowSet<'t> {
     pub end: usize,
 }
 
-/// Whether the rows of two sets are the same, in order, and as many.
+// Whether the rows of two sets are the same, in order, and as many.
 // Kept, a loop by hand: the next row of a set stands at the end of the row before it, where no iterator goes.
 #[cycle(rows)]
 pub fn same_set(a: &RowSet<'_>, b: &RowSet<'_>) -> bool

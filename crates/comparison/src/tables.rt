@@ -12,7 +12,7 @@ use ordered_index::find;
 use selection_rules::StoredRow;
 use stored_tables::StoredDefinition;
 
-/// Stored definitions, the slots of the index of their names, and the rows in which their ranges lie.
+// Stored definitions, the slots of the index of their names, and the rows in which their ranges lie.
 #[derive(Clone, Copy)]
 pub struct DefinitionTable<'t> {
     pub definitions: &'t [StoredDefinition],
@@ -44,7 +44,7 @@ fn same_definition(
     same_members(a, b) && same_set(&set_a, &set_b)
 }
 
-/// Whether both documents have an anonymous operation, the same, or neither has one.
+// Whether both documents have an anonymous operation, the same, or neither has one.
 pub fn same_anonymous(
     a: Option<StoredDefinition>,
     rows: &[StoredRow],
@@ -62,7 +62,7 @@ pub fn same_anonymous(
     }
 }
 
-/// Whether two tables have as many definitions, and each of the one is the same as the one of its name in the other.
+// Whether two tables have as many definitions, and each of the one is the same as the one of its name in the other.
 pub fn same_table(a: &DefinitionTable<'_>, b: &DefinitionTable<'_>) -> bool
     requires first { Ready a.now }
     requires second { Ready b.now }
