@@ -1,0 +1,4 @@
+-- Lemmas, by topic.
+pub mod Turns
+pub mod Matches
+pub mod Ready
