@@ -1,0 +1,8 @@
+// Finished documents: comparing two of them, and walking over the fields of their operations.
+#![tactic(auto)]
+
+mod comparing;
+mod fault;
+
+pub use comparing::compare;
+pub use fault::ExecutableFault;
