@@ -1,6 +1,6 @@
 -- Tables in which no two definitions have one name: as many of them, of which each of the one is the same as one of the
 -- other, are as good as each of either the same as one of the other.
-use Rattle.std.proofs.Common.{◌≡◌, ℕ, zero, suc, ◌+◌, ◌<◌, ◌≤◌, true, false, eqb, eq-eqb, List, ◌∷◌, map, length, get_or, sym, ap, ◌∙◌, subst, ⊎_elim, arith}
+use Rattle.std.proofs.Common.{◌≡◌, ℕ, zero, suc, ◌<◌, ◌≤◌, true, false, eqb, eq-eqb, List, ◌∷◌, map, length, get_or, sym, ap, ◌∙◌, subst, ⊎_elim, arith}
 use Rattle.std.specs.List.{Contains, list_any}
 use Rattle.std.specs.Cmp.{nat_eq_equiv}
 use Rattle.std.proofs.lemmas.Bool.{cases_lt, cases_Bool, eqb-false, false≢true}
@@ -139,8 +139,3 @@ module _ (rows others : List StoredRow) (ds es : List StoredDefinition) (apart :
         let long = length-map es name_of in
         let here : eqb (get_or (map name_of es) k.0 0) (definition_at ds i).row.name ≡ true = eq-eqb _ _ (get_or-map name_of es k.0 no_stored_definition 0 k.1 ∙ sym k.2.members.head.name) in
         subst (λ (j : ℕ). Meets (definition_at ds i) (definition_at es j)) (only.only k.0 0 (omega (arith, k.1)) here) k.2
-
--- one place more
-pub one_more : (P : ℕ → Type 0) (n : ℕ) → ((i : ℕ) → i < n → P i) → P n → (i : ℕ) → i < n + 1 → P i
-one_more P n before here i low =
-    ⊎_elim (λ (less : i < n). before i less) (λ (rest : n ≤ i). subst P (omega arith) here) (cases_lt i n)

@@ -43,15 +43,16 @@ fn same_row(a: &[StoredRow], x: usize, b: &[StoredRow], y: usize) -> bool
     requires second { Rooted b.now y }
     ensures { Decides result (SameAt a.now x b.now y) }
 {
+    let (row_a, row_b) = (&a[x], &b[y]);
     let beneath_a = RowSet {
         rows: a,
         first: x + 1,
-        end: a[x].selection.end as usize,
+        end: row_a.selection.end as usize,
     };
     let beneath_b = RowSet {
         rows: b,
         first: y + 1,
-        end: b[y].selection.end as usize,
+        end: row_b.selection.end as usize,
     };
-    same_selection(&a[x], &b[y]) && same_set(&beneath_a, &beneath_b)
+    same_selection(row_a, row_b) && same_set(&beneath_a, &beneath_b)
 }

@@ -1,10 +1,8 @@
-use Rattle.std.proofs.Common.{ℕ, ◌<◌, length, refl, arith}
+use Rattle.std.proofs.Common.{below_more, refl, arith}
 use Rattle.std.proofs.lemmas.Bool.{false≢true}
 use Rattle.std.proofs.lemmas.List.{length-map}
-use Rattle.stored_tables.specs.Verdict.{definition_at}
 use Rattle.stored_tables.specs.Layout.{name_of}
-use Rattle.finished_rules.specs.SameTables.{SameDefinition}
-use Rattle.comparison.proofs.Matches.{all_matched, as_many, not_absent, found_same, one_more}
+use Rattle.comparison.proofs.Matches.{all_matched, as_many, not_absent, found_same}
 use Rattle.comparison.proofs.tables.same_table.Goals as goal
 
 pub returns-then-a-b : goal.returns-then-a-b
@@ -47,10 +45,7 @@ returns-then-not-same_definition c =
 
 pub loop-definition-preserved : goal.loop-definition-preserved
 loop-definition-preserved c =
-    let a = c.args.a.now in
-    let b = c.args.b.now in
-    let i = c.loop-definition.definition-index in
-    let long = length-map b.definitions.now name_of in
+    let long = length-map c.args.b.now.definitions.now name_of in
     let only = c.in-Some.ensures.located c.requires.second.indexed in
-    one_more (λ i. (k : ℕ) × (k < length b.definitions.now) × SameDefinition a.rows.now b.rows.now (definition_at a.definitions.now i) (definition_at b.definitions.now k)) i c.loop-definition.invariant
+    below_more _ _ c.loop-definition.invariant
     (c.in-Some.place, omega (arith, only.stands.inside), c.if-not-same_definition.ensures.0 refl)

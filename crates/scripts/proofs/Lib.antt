@@ -1,0 +1,1 @@
+-- The lemmas of the crate, in the order in which they are needed.

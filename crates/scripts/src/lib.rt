@@ -1,0 +1,9 @@
+// Whole runs: a fresh builder is sent the documents of a script, one after the other, and each refusal is put up with. What
+// comes of it is said of the script and the schema's answers alone.
+#![tactic(auto)]
+
+mod run;
+mod script;
+
+pub use run::run;
+pub use script::{Adding, ScriptFault};
