@@ -1,5 +1,5 @@
 -- What a call leaves alone in the tables that are lent to it.
-use Rattle.std.specs.Prelude.{◌≡◌, drop}
+use Rattle.std.specs.Prelude.{◌≡◌, length, drop}
 use Rattle.stored_tables.specs.declared.tables.Tables.{Tables}
 
 -- the same tables are lent on as were lent
@@ -26,3 +26,13 @@ pub record Untouched (before after : Tables) : Type 0 where
   pub rows : after.rows.now ≡ before.rows.now
   pub errors : after.errors.now ≡ before.errors.now
   pub path_keys : after.path_keys.now ≡ before.path_keys.now
+
+-- each table is as long as it was
+pub record SameLengths (before after : Tables) : Type 0 where
+  pub operations : length after.operations.now ≡ length before.operations.now
+  pub operation_slots : length after.operation_slots.now ≡ length before.operation_slots.now
+  pub fragments : length after.fragments.now ≡ length before.fragments.now
+  pub fragment_slots : length after.fragment_slots.now ≡ length before.fragment_slots.now
+  pub rows : length after.rows.now ≡ length before.rows.now
+  pub errors : length after.errors.now ≡ length before.errors.now
+  pub path_keys : length after.path_keys.now ≡ length before.path_keys.now

@@ -12,7 +12,7 @@ ghost use Rattle.builder.specs.Beginning.{Begins};
 ghost use Rattle.builder.specs.Reading.{keys_between};
 ghost use Rattle.builder.specs.Certificate.{Stands, IsKept, called, NeverStale, ReadsPath};
 ghost use Rattle.builder.specs.Finished.{Finished};
-ghost use Rattle.builder.specs.Lent.{SameTables, SameFurtherSlots, Untouched};
+ghost use Rattle.builder.specs.Lent.{SameTables, SameLengths, SameFurtherSlots, Untouched};
 
 use crate::executable::ExecutableDocument;
 use crate::fault::BuilderFault;
@@ -59,6 +59,7 @@ impl<'s, S: Schema> ExecutableDocumentBuilder<'s, S> {
         ensures begins { Begins tables.old tables.new result }
         ensures schema { IfOk result (λ b. b.schema ≡ schema.entry) }
         ensures same { SameTables tables.old tables.new }
+        ensures lengths { SameLengths tables.old tables.new }
         ensures calls { IfOk result (λ b. Stands S.Schema.meaning (S.Schema.meaning schema.now) [] b tables.new) }
     {
         if tables.operation_slots.len() < INDEX_SLOTS || tables.fragment_slots.len() < INDEX_SLOTS {
@@ -96,6 +97,7 @@ impl<'s, S: Schema> ExecutableDocumentBuilder<'s, S> {
         ensures further { SameFurtherSlots tables.old tables.new }
         ensures refused { IfErr result (λ _. ((self.new ≡ self.old) × Untouched tables.old tables.new)) }
         ensures same { SameTables tables.old tables.new }
+        ensures lengths { SameLengths tables.old tables.new }
         ensures calls { (m : Meaning) (calls : List Call) → Stands S.Schema.meaning m calls self.old tables.old → Stands S.Schema.meaning m (calls ++ called document.now.definitions.now document.now.rows.now strict (is_err result) ∷ []) self.new tables.new }
         ensures never { (m : Meaning) (calls : List Call) → Stands S.Schema.meaning m calls self.old tables.old → NeverStale result }
     {

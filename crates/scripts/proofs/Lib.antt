@@ -1,1 +1,3 @@
 -- The lemmas of the crate, in the order in which they are needed.
+pub mod Answered
+pub mod Turns

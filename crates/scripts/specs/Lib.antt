@@ -1,2 +1,3 @@
--- The definitions that the contracts of the crate cite.
+-- The definitions that the contracts of the crate cite, in the order in which they are needed.
 pub mod Script
+pub mod Running

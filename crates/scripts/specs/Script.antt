@@ -10,6 +10,7 @@ use Rattle.selection_rules.specs.Errors.{keys_in}
 use Rattle.building_rules.specs.Calls.{Call, document_in, kept, listed_in}
 use Rattle.building_rules.specs.Definitions.{Kept}
 use Rattle.building_rules.specs.Bounds.{rows_kept}
+use Rattle.stored_tables.specs.declared.tables.Tables.{Tables}
 use Rattle.stored_tables.specs.Layout.{operations_of, fragments_of}
 use Rattle.builder.specs.declared.fault.BuilderFault.{BuilderFault}
 use Rattle.builder.specs.declared.fault.BuilderFault.TheVariants.{Document, NoRoom}
@@ -24,6 +25,16 @@ pub record Lengths : Type 0 where
   pub rows : ℕ
   pub errors : ℕ
   pub path_keys : ℕ
+
+abbrev pub lengths_of : Tables → Lengths
+lengths_of t =
+    record {
+      operations = length t.operations.now;
+      fragments = length t.fragments.now;
+      rows = length t.rows.now;
+      errors = length t.errors.now;
+      path_keys = length t.path_keys.now;
+    }
 
 -- whether what is kept and listed of the calls, and what is needed, pass a limit or a table
 abbrev pub no_room : Lengths → Meaning → List Call → Needs → Bool

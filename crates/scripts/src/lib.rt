@@ -2,8 +2,8 @@
 // comes of it is said of the script and the schema's answers alone.
 #![tactic(auto)]
 
-mod run;
+mod running;
 mod script;
 
-pub use run::run;
+pub use running::run;
 pub use script::{Adding, ScriptFault};

@@ -1,4 +1,10 @@
 // Running a script on a fresh builder.
+ghost use Rattle.std.specs.Prelude.{◌≡◌, [], ◌++◌, List, length, drop};
+ghost use Rattle.builder.specs.Certificate.{Stands};
+ghost use Rattle.builder.specs.Lent.{SameTables};
+ghost use Rattle.scripts.specs.Script.{lengths_of, answers_from, calls_from};
+ghost use Rattle.scripts.specs.Running.{Runs};
+
 use crate::script::{Adding, ScriptFault};
 use builder::{BuilderFault, ExecutableDocumentBuilder};
 use schema::Schema;
@@ -11,7 +17,10 @@ pub fn run<'s, S: Schema>(
     tables: &mut Tables<'_>,
     script: &[Adding<'_>],
     answers: &mut [Option<BuilderFault>],
-) -> Result<ExecutableDocumentBuilder<'s, S>, ScriptFault> {
+) -> Result<ExecutableDocumentBuilder<'s, S>, ScriptFault>
+    ensures runs { Runs S.Schema.meaning (S.Schema.meaning schema.now) tables.old tables.new script.now answers.old answers.new result }
+    ensures same { SameTables tables.old tables.new }
+{
     if answers.len() < script.len() {
         return Err(ScriptFault::AnswersTooShort);
     }
