@@ -1,12 +1,9 @@
 -- The answer to a call, from the calls before it.
-use Rattle.std.proofs.Common.{◌≡◌, ℕ, Bool, true, false, cond, ◌||◌, List, length, take, Some, None, Ok, Err, Option, Result, option_map, sym, refl, ap, ◌∙◌, arith}
+use Rattle.std.proofs.Common.{◌≡◌, Bool, true, false, cond, List, Some, None, Option, Result, option_map, sym, refl, ◌∙◌}
 use Rattle.std.specs.Result.{result_err}
 use Rattle.refusal.specs.Firsts.{or_else}
-use Rattle.document.specs.declared.rows.DefinitionRow.{DefinitionRow}
-use Rattle.document.specs.declared.rows.SelectionRow.{SelectionRow}
 use Rattle.document.specs.declared.handed.needs.Needs.{Needs}
 use Rattle.document.specs.declared.fault.DocumentFault.{DocumentFault}
-use Rattle.document.specs.Verdict.{size_fault, layout_fault}
 use Rattle.schema.specs.Meaning.{Meaning}
 use Rattle.building_rules.specs.Calls.{Call}
 use Rattle.stored_tables.specs.declared.tables.Tables.{Tables}

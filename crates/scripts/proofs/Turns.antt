@@ -1,5 +1,5 @@
 -- A script is run call by call: what is answered, and what is left to answer, is what all comes to.
-use Rattle.std.proofs.Common.{◌≡◌, ℕ, ◌+◌, ◌<◌, ◌≤◌, List, [], ◌∷◌, ◌++◌, length, get_or, take, drop, set, Option, sym, refl, ap, ◌∙◌, subst, append_assoc, append-nil, arith, length-set, take-append-drop}
+use Rattle.std.proofs.Common.{◌≡◌, ℕ, false, ◌+◌, ◌<◌, ◌≤◌, List, [], ◌∷◌, ◌++◌, length, get_or, take, drop, set, Option, sym, refl, ap, ◌∙◌, subst, append_assoc, append-nil, arith, length-set, take-append-drop}
 use Rattle.std.proofs.lemmas.List.{drop_more, drop_all, take_more_set, drop-set-lt, drop-drop}
 use Rattle.schema.specs.Meaning.{Meaning}
 use Rattle.building_rules.specs.Calls.{Call}
@@ -10,6 +10,10 @@ use Rattle.builder.specs.Certificate.{Stands}
 use Rattle.builder.specs.Lent.{SameTables, SameLengths}
 use Rattle.scripts.specs.declared.script.Adding.{Adding}
 use Rattle.scripts.specs.Script.{Lengths, lengths_of, answer_to, call_of, answers_from, calls_from}
+
+-- what stands past the last call
+abbrev pub no_adding : Adding
+no_adding = record { document = record { definitions = record { ref_ptr = (0, 0); now = [] }; rows = record { ref_ptr = (0, 0); now = [] } }; strict = false }
 
 pub same_lengths : (before after : Tables) → SameLengths before after → lengths_of after ≡ lengths_of before
 same_lengths before after same =

@@ -1,5 +1,5 @@
 -- What running a script answers, and what the builder, its tables and the answers are then.
-use Rattle.std.specs.Prelude.{◌≡◌, ◌≤◌, ◌<◌, true, false, List, [], ◌++◌, length, drop, Some, None, Ok, Err, Option, Result}
+use Rattle.std.specs.Prelude.{◌≡◌, ◌≤◌, ◌<◌, true, false, List, [], ◌++◌, length, drop, Ok, Err, Option, Result}
 use Rattle.schema.specs.Meaning.{Meaning}
 use Rattle.stored_tables.specs.declared.tables.Tables.{Tables}
 use Rattle.builder.specs.declared.builder.ExecutableDocumentBuilder.{ExecutableDocumentBuilder}

@@ -1,6 +1,6 @@
 -- What a script comes to, said of its documents and the schema's answers alone: the answer to each call, and the calls with
 -- their answers.
-use Rattle.std.specs.Prelude.{ℕ, ◌+◌, min, Bool, cond, ◌||◌, List, [], ◌∷◌, ◌++◌, length, is_some, Some, None, Option, nat_lt, option_map}
+use Rattle.std.specs.Prelude.{ℕ, Bool, cond, ◌||◌, List, [], ◌∷◌, ◌++◌, length, is_some, Some, None, Option, option_map}
 use Rattle.refusal.specs.Firsts.{or_else}
 use Rattle.document.specs.declared.handed.needs.Needs.{Needs}
 use Rattle.document.specs.Needs.{needs_of}
@@ -8,7 +8,6 @@ use Rattle.document.specs.Verdict.{document_fault}
 use Rattle.schema.specs.Meaning.{Meaning}
 use Rattle.selection_rules.specs.Errors.{keys_in}
 use Rattle.building_rules.specs.Calls.{Call, document_in, kept, listed_in}
-use Rattle.building_rules.specs.Definitions.{Kept}
 use Rattle.building_rules.specs.Bounds.{rows_kept}
 use Rattle.stored_tables.specs.declared.tables.Tables.{Tables}
 use Rattle.stored_tables.specs.Layout.{operations_of, fragments_of}

@@ -1,12 +1,13 @@
 -- Each turn answers one call.
-use Rattle.std.proofs.Common.{◌≡◌, Bool, ◌++◌, [], ◌∷◌, length, drop, is_some, Ok, Err, Option, Result, sym, refl, ap, ◌∙◌, subst}
+use Rattle.std.proofs.Common.{◌≡◌, Bool, ◌++◌, [], ◌∷◌, length, get_or, drop, is_some, Ok, Err, Option, Result, sym, refl, ap, ◌∙◌, subst}
 use Rattle.std.specs.Result.{is_err, result_err}
 use Rattle.schema.specs.Meaning.{Meaning}
 use Rattle.builder.specs.declared.fault.BuilderFault.{BuilderFault}
 use Rattle.builder.specs.Certificate.{Stands, called}
+use Rattle.scripts.specs.declared.script.Adding.{Adding}
 use Rattle.scripts.specs.Script.{Lengths, answers_from, calls_from}
 use Rattle.scripts.proofs.Answered.{answered}
-use Rattle.scripts.proofs.Turns.{same_lengths, both_same, begin, go_on, all_answered, all_called}
+use Rattle.scripts.proofs.Turns.{no_adding, same_lengths, both_same, begin, go_on, all_answered, all_called}
 use Rattle.scripts.proofs.running.run.Goals as goal
 
 -- a call is refused that answers with a fault
@@ -29,9 +30,10 @@ loop-i-preserved g c =
     let w = c.loop-i.invariant in
     let m : Meaning = g.S.Schema.meaning c.args.schema.now in
     let added = c.add_ast_document.ensures in
-    go_on g.S.Schema.meaning m _ _ _ c.loop-i.i c.loop-i.builder c.loop-i.tables c.loop-i.answers w _ _ c.err.result _ _ c.loop-i-test.true c.if-answers-script.false refl
-    (c.err.ensures.value ∙ answered g.S.Schema.meaning m w.calls c.loop-i.builder c.loop-i.tables w.stands _ _ added.answer)
-    (subst (λ (refused : Bool). Stands g.S.Schema.meaning m (w.calls ++ called _ _ _ refused ∷ []) c.add_ast_document.new.self c.add_ast_document.new.tables)
+    let call : Adding = get_or c.args.script.now c.loop-i.i no_adding in
+    go_on g.S.Schema.meaning m _ _ _ c.loop-i.i c.loop-i.builder c.loop-i.tables c.loop-i.answers w no_adding call c.err.result _ _ c.loop-i-test.true c.if-answers-script.false refl
+    (c.err.ensures.value ∙ answered g.S.Schema.meaning m w.calls c.loop-i.builder c.loop-i.tables w.stands call _ added.answer)
+    (subst (λ (refused : Bool). Stands g.S.Schema.meaning m (w.calls ++ called call.document.definitions.now call.document.rows.now call.strict refused ∷ []) c.add_ast_document.new.self c.add_ast_document.new.tables)
     (refused_so c.add_ast_document.result ∙ ap (λ (x : Option BuilderFault). is_some x) (sym c.err.ensures.value)) (added.calls m w.calls w.stands))
     added.same added.lengths
 
