@@ -1,0 +1,7 @@
+-- The definitions that the contracts of the crate cite, in the order in which they are needed.
+pub mod Tables
+pub mod Reaches
+pub mod Walk
+pub mod Listed
+pub mod Refusals
+pub mod Turning
