@@ -4,3 +4,11 @@ pub mod Steps
 pub mod Turns
 pub mod AtTop
 pub mod Numbers
+pub mod Places
+pub mod Marking
+pub mod Closed
+pub mod Orders
+pub mod Exact
+pub mod Going
+pub mod Under
+pub mod Few

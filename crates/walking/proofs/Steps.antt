@@ -1,22 +1,11 @@
 -- What the steps of a stack and the marks come to, after one of them is written.
-use Rattle.std.proofs.Common.{◌≡◌, ℕ, zero, suc, ◌+◌, ◌-◌, ◌*◌, ◌<◌, ◌≤◌, ◌⊎◌, inl, inr, Bool, true, false, cond, eqb, List, length, get_or, set, sym, refl, ap, ◌∙◌, subst, eq-eqb, eqb-true, get_or-set_same, get_or-set_other, length-set, arith}
-use Rattle.std.proofs.lemmas.Bool.{eqb-false}
+use Rattle.std.proofs.Common.{◌≡◌, ℕ, zero, suc, ◌+◌, ◌-◌, ◌*◌, ◌<◌, ◌≤◌, ◌⊎◌, inl, inr, List, length, get_or, set, sym, refl, ap, ◌∙◌, subst, eq-eqb, get_or-set_same, get_or-set_other, length-set, arith}
+use Rattle.std.proofs.lemmas.Bool.{cases_eq}
 use Rattle.stored_tables.specs.declared.stored.StoredDocument.{StoredDocument}
 use Rattle.walking.specs.declared.turn.Scope.{Scope}
 use Rattle.walking.specs.declared.turn.WalkStep.{WalkStep}
 use Rattle.walking.specs.Walk.{Walk}
 use Rattle.walking.specs.Turning.{step_at, Pending, load, tally}
-
--- two numbers are one, or not
-pub one_or_two : (a b : ℕ) → (a ≡ b) ⊎ (a ≡ b → ⊥)
-one_or_two a b = go (eqb a b) refl
-  where
-    go : (t : Bool) → eqb a b ≡ t → (a ≡ b) ⊎ (a ≡ b → ⊥)
-    go true is = inl (eqb-true a b is)
-    go false is = inr (eqb-false a b is)
-
-pub no_step : WalkStep
-no_step = record { next = 0; end = 0 }
 
 pub step_written : (st : List WalkStep) (k : ℕ) (v : WalkStep) → k < length st → step_at (set st k v) k ≡ v
 step_written st k v low = get_or-set_same st k v (record { next = 0; end = 0 }) low
@@ -47,7 +36,7 @@ tally_above w m f (suc n) low =
 -- a fragment that is marked counts no more
 pub tally_marked : (w : ℕ → ℕ) (m : List ℕ) (f n : ℕ) → f < n → f < length m → get_or m f 0 ≡ 0 → tally w (set m f 1) n + w f ≡ tally w m n
 tally_marked w m f zero low long z = absurd (omega arith)
-tally_marked w m f (suc n) low long z = go (λ k. tally_marked w m f n k long z) (one_or_two f n)
+tally_marked w m f (suc n) low long z = go (λ k. tally_marked w m f n k long z) (cases_eq f n)
   where
     go : (f < n → tally w (set m f 1) n + w f ≡ tally w m n) → (f ≡ n) ⊎ (f ≡ n → ⊥) → tally w (set m f 1) (suc n) + w f ≡ tally w m (suc n)
     go ih (inl same) =

@@ -1,12 +1,13 @@
 -- The turns of a walk: a step ends, a field is met, a fragment is entered, a row is passed over.
 use Rattle.std.proofs.Common.{◌≡◌, ℕ, zero, suc, ◌+◌, ◌-◌, ◌<◌, ◌≤◌, ◌⊎◌, inl, inr, List, [], ◌∷◌, ◌++◌, length, get_or, set, Some, None, sym, refl, ap, ◌∙◌, subst, add-one, append_assoc, length-set, arith}
+use Rattle.std.proofs.lemmas.Bool.{cases_eq}
 use Rattle.stored_tables.specs.declared.stored.StoredDocument.{StoredDocument}
 use Rattle.walking.specs.declared.turn.Scope.{Scope}
 use Rattle.walking.specs.declared.turn.WalkStep.{WalkStep}
 use Rattle.walking.specs.Tables.{fragment_at, Field, InShape}
 use Rattle.walking.specs.Walk.{after, Fresh, Walk, done, field, enter, pass}
 use Rattle.walking.specs.Turning.{Going, going, step_at, Pending, load, tally, turns, left, Ready, Turned}
-use Rattle.walking.proofs.Steps.{one_or_two, step_written, step_other, pending_below, load_below, tally_marked}
+use Rattle.walking.proofs.Steps.{step_written, step_other, pending_below, load_below, tally_marked}
 
 -- a stack whose top step, the one at k, is written
 module _ (d : StoredDocument) (sc : Scope) (st : List WalkStep) (k : ℕ) (m : List ℕ) (ready : Ready d (going st (suc k) m)) where
@@ -23,7 +24,7 @@ module _ (d : StoredDocument) (sc : Scope) (st : List WalkStep) (k : ℕ) (m : L
   written i = step_written st k (record { next = i; end = top.end }) tall
 
   still_inside : (i j : ℕ) → j < suc k → (step_at (on_to i) j).end ≤ length d.rows.now
-  still_inside i j low = go (one_or_two j k)
+  still_inside i j low = go (cases_eq j k)
     where
       go : (j ≡ k) ⊎ (j ≡ k → ⊥) → (step_at (on_to i) j).end ≤ length d.rows.now
       go (inl same) = let is = written i in let x = ready.inside k (omega arith) in rw (same, is) x
@@ -106,7 +107,7 @@ module _ (d : StoredDocument) (sc : Scope) (st : List WalkStep) (k : ℕ) (m : L
     newest = step_written (on_to (top.next + 1)) (suc k) new taller
 
     all_inside : (j : ℕ) → j < suc (suc k) → (step_at entering j).end ≤ length d.rows.now
-    all_inside j low = go (one_or_two j (suc k))
+    all_inside j low = go (cases_eq j (suc k))
       where
         go : (j ≡ suc k) ⊎ (j ≡ suc k → ⊥) → (step_at entering j).end ≤ length d.rows.now
         go (inl same) = let is = newest in rw (same, is) (shape.within f fresh.names.there)

@@ -3,5 +3,6 @@ pub mod Tables
 pub mod Reaches
 pub mod Walk
 pub mod Listed
+pub mod Lent
 pub mod Refusals
 pub mod Turning
