@@ -12,6 +12,7 @@ use Rattle.walking.specs.Listed.{Among, Distinct, Before, Ordered, Lists}
 use Rattle.walking.proofs.Places.{Marked, was_clear, distinct_joined}
 use Rattle.walking.proofs.Marking.{wide, wide_after, clears, entered}
 use Rattle.walking.proofs.Closed.{Settled, New, Source, closed_here, closed_new, inner, lists}
+use Rattle.walking.proofs.Few.{no_more}
 use Rattle.walking.proofs.Orders.{in_order, new_order, alike}
 
 -- a fragment entered on the way is named by a chain
@@ -108,6 +109,16 @@ module _ (d : StoredDocument) (s : StoredDefinition) (ok : Walkable d s) (ps : L
 
   pub each_once : Distinct ps
   each_once = once d ok.shape long listing.walk (λ f p x y z u. ok.alone f p x (z, u))
+
+  in_rows : (p : ℕ) → Among p ps → p < length d.rows.now
+  in_rows p h = go (lists d ok.shape long listing.walk p h).1
+    where
+      go : Source d (blank d) s.row.first s.row.end listing.after p → p < length d.rows.now
+      go (inl x) = let a = x.1 in let b = ok.within in omega arith
+      go (inr x) = let a = x.2.1 in let b = ok.shape.within x.0 x.1.0 in omega arith
+
+  pub few : length ps ≤ length d.rows.now
+  few = no_more (length d.rows.now) ps each_once in_rows
 
   -- what a listing comes to
   pub listed : Lists d s ps

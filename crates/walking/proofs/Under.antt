@@ -4,11 +4,13 @@ use Rattle.std.proofs.lemmas.List.{append-nil, length-replicate}
 use Rattle.stored_tables.specs.declared.definition.StoredDefinition.{StoredDefinition}
 use Rattle.stored_tables.specs.declared.stored.StoredDocument.{StoredDocument}
 use Rattle.walking.specs.declared.turn.Scope.{Scope}
+use Rattle.walking.specs.declared.turn.Scope.TheVariants.{Deep}
 use Rattle.walking.specs.declared.turn.WalkStep.{WalkStep}
 use Rattle.walking.specs.Tables.{InShape, Walkable}
 use Rattle.walking.specs.Walk.{Walk, Listing}
 use Rattle.walking.specs.Turning.{Going, going, step_at, Pending, tally, Ready, Turned}
 use Rattle.walking.proofs.Steps.{step_written}
+use Rattle.walking.proofs.Exact.{few}
 use Rattle.walking.proofs.Going.{at_most, pending}
 
 -- the places come upon so far, with those that the open steps list, are those of the walk of s
@@ -57,6 +59,14 @@ module _ (d : StoredDocument) (sc : Scope) (s : StoredDefinition) where
   whole_listing shape g out under =
       let rest = pending d shape sc g.stack g.depth g.marks (let e = under.ready.each in omega arith) under.ready.inside in
       (rest.0, under.rest rest.0 rest.1)
+
+  -- a walk over all rows comes upon no more places than there are rows
+  pub counted : Walkable d s → (g : Going) (out : List ℕ) → sc ≡ Deep → Under d sc s g out → length out ≤ length d.rows.now
+  counted ok g out is under =
+      let all = whole_listing ok.shape g out under in
+      let low = few d s ok (out ++ all.0) (subst (λ (x : Scope). Listing d x s (out ++ all.0)) is all.1) in
+      let long = length-append out all.0 in
+      omega arith
 
   pub over : (st : List WalkStep) (depth : ℕ) (m : List ℕ) (out : List ℕ) → Under d sc s (going st depth m) out → depth ≤ 0 → Listing d sc s out
   over st depth m out under none =

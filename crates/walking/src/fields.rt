@@ -39,6 +39,8 @@ fn list_fields(
     let mut count = 0;
     while depth > 0 {
         if let Some(place) = turn(document, Scope::Deep, stack, &mut depth, marks) {
+            // No row is come upon twice.
+            prove!(count < document.stored.rows.len());
             if count < list.len() {
                 list[count] = place;
             }
