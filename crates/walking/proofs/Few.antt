@@ -43,3 +43,7 @@ any_among q (x ∷ xs) is = go (any_among q xs) (eqb q x) refl is
 -- places below n, none twice
 pub no_more : (n : ℕ) (xs : List ℕ) → Distinct xs → ((p : ℕ) → Among p xs → p < n) → length xs ≤ n
 no_more n xs distinct low = length-le_from_distinct_below xs n (no_two xs distinct) (λ q is. low q (any_among q xs is))
+
+-- a list that is long enough takes all places
+pub all_written : (xs ys : List ℕ) → length ys ≤ length xs → written_over xs ys ≡ ys ++ drop (length ys) xs
+all_written xs ys low = ap (λ (l : List ℕ). l ++ drop (length ys) xs) (take_all (length xs) ys low)

@@ -12,3 +12,5 @@ pub mod Exact
 pub mod Going
 pub mod Under
 pub mod Few
+pub mod Shapes
+pub mod Whole

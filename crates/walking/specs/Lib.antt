@@ -5,4 +5,5 @@ pub mod Walk
 pub mod Listed
 pub mod Lent
 pub mod Refusals
+pub mod Answers
 pub mod Turning
