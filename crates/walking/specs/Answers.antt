@@ -1,0 +1,19 @@
+-- What a call for all fields answers.
+use Rattle.std.specs.Prelude.{◌≡◌, ℕ, List, length, Option}
+use Rattle.finished_tables.specs.declared.indexed.IndexedDocument.{IndexedDocument}
+use Rattle.stored_tables.specs.declared.definition.StoredDefinition.{StoredDefinition}
+use Rattle.walking.specs.declared.judge.Lengths.{Lengths}
+use Rattle.walking.specs.Refusals.{Accepted}
+use Rattle.walking.specs.Listed.{Lists}
+
+abbrev pub lengths : ℕ → ℕ → Option ℕ → Lengths
+lengths stack marks list = record { stack = stack; marks = marks; list = list }
+
+-- the operation is walked: its fields are counted, and their places written
+pub record FieldsOf (d : IndexedDocument) (operation : ℕ) (lent : Lengths) (written : List ℕ → Type 0) (n : ℕ) : Type 0 where
+  pub definition : StoredDefinition
+  pub accepted : Accepted d operation lent definition
+  pub places : List ℕ
+  pub lists : Lists d.stored definition places
+  pub counted : n ≡ length places
+  pub listed : written places

@@ -1,0 +1,12 @@
+// Walks over the fields of a finished document: all that an operation reaches, and whether it is introspection only.
+#![tactic(auto)]
+
+mod fault;
+mod fields;
+mod judge;
+mod marks;
+mod turn;
+
+pub use fault::WalkFault;
+pub use fields::all_fields;
+pub use turn::WalkStep;
