@@ -3,6 +3,8 @@
 
 mod comparing;
 mod fault;
+mod fields;
 
 pub use comparing::compare;
 pub use fault::ExecutableFault;
+pub use fields::all_fields;

@@ -1,0 +1,55 @@
+-- Walking over the fields of an operation: which refusal comes, and what is counted and listed.
+use Rattle.std.specs.Prelude.{◌≡◌, ℕ, zero, suc, ◌<◌, Bool, true, ◌↔◌, List, length, Ok, Err, Result, slice_index}
+use Rattle.building_rules.specs.Definitions.{Kept}
+use Rattle.building_rules.specs.Rules.{anonymous_role, named_role}
+use Rattle.stored_tables.specs.declared.tables.Tables.{Tables}
+use Rattle.finished_rules.specs.Numbers.{has_role, numbers}
+use Rattle.finished_rules.specs.Reaches.{Reaches}
+use Rattle.finished_tables.specs.declared.indexed.IndexedDocument.{IndexedDocument}
+use Rattle.walking.specs.declared.fault.WalkFault.{WalkFault}
+use Rattle.walking.specs.declared.fault.WalkFault.TheVariants as walk
+use Rattle.walking.specs.declared.judge.Lengths.{Lengths}
+use Rattle.walking.specs.Refusals.{Refused}
+use Rattle.walking.specs.Listed.{Among, Distinct}
+use Rattle.walking.specs.Answers.{FieldsOf}
+use Rattle.builder.specs.declared.executable.ExecutableDocument.{ExecutableDocument}
+use Rattle.builder.specs.Finished.{finished_short, ReadFrom}
+use Rattle.executable.specs.declared.fault.ExecutableFault.{ExecutableFault}
+use Rattle.executable.specs.declared.fault.ExecutableFault.TheVariants as fault
+
+abbrev pub walk_fault : WalkFault → ExecutableFault
+walk_fault walk.TooShort = fault.WalkTooShort
+walk_fault (walk.Stored f) = fault.Stored f
+walk_fault walk.IndexUnfit = fault.IndexUnfit
+walk_fault walk.NoOperation = fault.NoOperation
+
+-- tables that are too short are refused first; else what is read of them is walked
+pub data FieldsAnswer {S : Type 0} (d : ExecutableDocument S) (t : Tables) (operation : ℕ) (lent : Lengths) (written : List ℕ → Type 0) : Result ℕ ExecutableFault → Type 0 where
+  short : finished_short d t ≡ true → FieldsAnswer d t operation lent written (Err fault.TableTooShort)
+  refused : (x : IndexedDocument) (f : WalkFault) → ReadFrom d t x → Refused x operation lent f → FieldsAnswer d t operation lent written (Err (walk_fault f))
+  listed : (x : IndexedDocument) (n : ℕ) → ReadFrom d t x → FieldsOf x operation lent written n → FieldsAnswer d t operation lent written (Ok n)
+
+-- the operation at a place, among those that are kept, has this number among all kept definitions: at 0 the anonymous one, at
+-- n the nth named one
+pub data IsNumbered (ks : List Kept) : ℕ → ℕ → Type 0 where
+  anonymous : (n : ℕ) → n < length ks → has_role anonymous_role ks n ≡ true → IsNumbered ks 0 n
+  named : (i : ℕ) → i < length (numbers named_role ks) → IsNumbered ks (suc i) (slice_index (numbers named_role ks) i)
+
+-- the places that are listed are those of exactly the kept fields that the operation reaches, each once, and they are counted
+pub record Reached (ks : List Kept) (operation : ℕ) (written : List ℕ → Type 0) (n : ℕ) : Type 0 where
+  pub number : ℕ
+  pub numbered : IsNumbered ks operation number
+  pub places : List ℕ
+  pub counted : n ≡ length places
+  pub listed : written places
+  pub once : Distinct places
+  pub exactly : (p : ℕ) → Among p places ↔ Reaches ks number p
+
+-- a walk from a kept operation is refused only where what is lent to it is too short
+abbrev pub ListsReached : List Kept → ℕ → (List ℕ → Type 0) → Result ℕ ExecutableFault → Type 0
+ListsReached ks operation written (Ok n) = Reached ks operation written n
+ListsReached ks operation written (Err fault.TableTooShort) = ⊥
+ListsReached ks operation written (Err fault.WalkTooShort) = Unit {0}
+ListsReached ks operation written (Err (fault.Stored f)) = ⊥
+ListsReached ks operation written (Err fault.IndexUnfit) = ⊥
+ListsReached ks operation written (Err fault.NoOperation) = (number : ℕ) → IsNumbered ks operation number → ⊥
