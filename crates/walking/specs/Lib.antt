@@ -3,6 +3,7 @@ pub mod Tables
 pub mod Reaches
 pub mod Walk
 pub mod Listed
+pub mod Introspection
 pub mod Lent
 pub mod Refusals
 pub mod Answers

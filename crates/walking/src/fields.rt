@@ -10,7 +10,6 @@ ghost use Rattle.walking.specs.Lent.{Lent, lent_long, written_over};
 ghost use Rattle.walking.specs.Refusals.{Refused};
 ghost use Rattle.walking.specs.Answers.{lengths, FieldsOf};
 
-
 use crate::fault::WalkFault;
 use crate::judge::{Lengths, judge};
 use crate::marks::Marks;

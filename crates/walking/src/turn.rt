@@ -31,11 +31,7 @@ fn unmarked(document: &IndexedDocument<'_>, name: u32, marks: &[u8]) -> Option<u
     requires each { length marks.now ≡ length document.now.stored.fragments.now }
     ensures { FirstNamed document.now.stored marks.now name result }
 {
-    let place = find(
-        document.stored.fragments,
-        document.fragment_slots,
-        &name,
-    )?;
+    let place = find(document.stored.fragments, document.fragment_slots, &name)?;
     if marks[place] != 0 {
         return None;
     }
