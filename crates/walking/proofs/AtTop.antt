@@ -1,5 +1,5 @@
 -- The turns of a walk at a depth above 0.
-use Rattle.std.proofs.Common.{◌≡◌, ℕ, suc, ◌+◌, ◌-◌, ◌<◌, ◌≤◌, List, length, get_or, set, Some, None, Option, sym, refl, ap, ◌∙◌, subst, add-one, set-set, arith}
+use Rattle.std.proofs.Common.{◌≡◌, ℕ, suc, ◌+◌, ◌-◌, ◌<◌, ◌≤◌, List, length, set, Some, None, sym, ap, ◌∙◌, subst, add-one, set-set, arith}
 use Rattle.stored_tables.specs.declared.stored.StoredDocument.{StoredDocument}
 use Rattle.walking.specs.declared.turn.Scope.{Scope}
 use Rattle.walking.specs.declared.turn.WalkStep.{WalkStep}

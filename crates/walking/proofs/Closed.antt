@@ -1,5 +1,5 @@
 -- A walk over all rows lists each field of the rows that it walks and of each fragment that it enters, and no other place.
-use Rattle.std.proofs.Common.{◌≡◌, ℕ, suc, ◌+◌, ◌<◌, ◌≤◌, ◌⊎◌, inl, inr, List, ◌∷◌, ◌++◌, length, get_or, set, sym, refl, ◌∙◌, subst, get_or-set_other, arith}
+use Rattle.std.proofs.Common.{◌≡◌, ℕ, suc, ◌<◌, ◌≤◌, ◌⊎◌, inl, inr, List, ◌∷◌, ◌++◌, length, get_or, set, sym, ◌∙◌, subst, get_or-set_other, arith}
 use Rattle.std.proofs.lemmas.Bool.{cases_eq}
 use Rattle.stored_tables.specs.declared.stored.StoredDocument.{StoredDocument}
 use Rattle.walking.specs.declared.turn.Scope.TheVariants.{Deep}
@@ -7,8 +7,8 @@ use Rattle.walking.specs.Tables.{fragment_at, Beneath, Field, Names, InShape}
 use Rattle.walking.specs.Walk.{Fresh, Walk, done, field, enter, pass}
 use Rattle.walking.specs.Listed.{Among}
 use Rattle.walking.proofs.Numbers.{one_not_two}
-use Rattle.walking.proofs.Places.{among_left, among_right, among_either, Marked, now_marked, was_clear}
-use Rattle.walking.proofs.Marking.{same_long, wide, wide_after, keeps, clears, entered}
+use Rattle.walking.proofs.Places.{among_left, among_right, among_either, Marked, was_clear}
+use Rattle.walking.proofs.Marking.{wide, wide_after, keeps, clears, entered}
 
 -- the row q is listed if it is a field, and what it spreads is entered
 abbrev pub Settled : StoredDocument → List ℕ → List ℕ → ℕ → Type 0

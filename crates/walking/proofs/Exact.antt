@@ -1,5 +1,5 @@
 -- The places that a walk over all rows lists are those that the definition reaches, each once.
-use Rattle.std.proofs.Common.{◌≡◌, ℕ, zero, suc, ◌+◌, ◌<◌, ◌≤◌, ◌⊎◌, inl, inr, List, [], ◌∷◌, ◌++◌, length, get_or, set, replicate, sym, refl, ap, ◌∙◌, subst, get_or-set_other, arith}
+use Rattle.std.proofs.Common.{◌≡◌, ℕ, zero, suc, ◌<◌, ◌≤◌, ◌⊎◌, inl, inr, List, [], ◌∷◌, length, get_or, set, replicate, sym, ap, ◌∙◌, subst, get_or-set_other, arith}
 use Rattle.std.proofs.lemmas.Bool.{cases_eq}
 use Rattle.std.proofs.lemmas.List.{length-replicate, get_or-replicate}
 use Rattle.stored_tables.specs.declared.definition.StoredDefinition.{StoredDefinition}
@@ -7,9 +7,9 @@ use Rattle.stored_tables.specs.declared.stored.StoredDocument.{StoredDocument}
 use Rattle.walking.specs.declared.turn.Scope.TheVariants.{Deep}
 use Rattle.walking.specs.Tables.{fragment_at, Beneath, Field, Names, InShape, Walkable}
 use Rattle.walking.specs.Reaches.{Chain, last_of, Reaches}
-use Rattle.walking.specs.Walk.{Fresh, Walk, done, field, enter, pass, Listing}
+use Rattle.walking.specs.Walk.{Walk, done, field, enter, pass, Listing}
 use Rattle.walking.specs.Listed.{Among, Distinct, Before, Ordered, Lists}
-use Rattle.walking.proofs.Places.{Marked, was_clear, distinct_joined}
+use Rattle.walking.proofs.Places.{was_clear, distinct_joined}
 use Rattle.walking.proofs.Marking.{wide, wide_after, clears, entered}
 use Rattle.walking.proofs.Closed.{Settled, New, Source, closed_here, closed_new, inner, lists}
 use Rattle.walking.proofs.Few.{no_more}

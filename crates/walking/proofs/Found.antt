@@ -1,10 +1,9 @@
 -- What a sound index finds, said of the fragments.
-use Rattle.std.proofs.Common.{◌≡◌, ℕ, ◌<◌, List, map, length, get_or, Some, None, sym, ap, ◌∙◌, subst, eqb-true, eq-eqb, arith}
+use Rattle.std.proofs.Common.{◌≡◌, ℕ, ◌<◌, List, map, length, get_or, Some, None, sym, ◌∙◌, subst, eqb-true, eq-eqb, arith}
 use Rattle.std.proofs.lemmas.Bool.{false≢true}
 use Rattle.std.proofs.lemmas.List.{get_or-map, length-map}
-use Rattle.ordered_index.specs.Keys.{same_name, name_hash}
-use Rattle.ordered_index.specs.Sound.{Sound, Located}
-use Rattle.stored_tables.specs.declared.definition.StoredDefinition.{StoredDefinition}
+use Rattle.ordered_index.specs.Keys.{same_name}
+use Rattle.ordered_index.specs.Sound.{Located}
 use Rattle.stored_tables.specs.declared.stored.StoredDocument.{StoredDocument}
 use Rattle.stored_tables.specs.Layout.{name_of}
 use Rattle.stored_tables.specs.Verdict.{no_stored_definition}

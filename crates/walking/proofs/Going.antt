@@ -1,12 +1,12 @@
 -- From anywhere, a walk has an outcome; and what a walk that is under way comes to.
-use Rattle.std.proofs.Common.{◌≡◌, ℕ, zero, suc, ◌+◌, ◌-◌, ◌<◌, ◌≤◌, ◌⊎◌, inl, inr, Bool, true, false, cond, eqb, List, [], ◌∷◌, ◌++◌, length, get_or, set, sym, refl, ap, ◌∙◌, subst, eqb-true, eq-eqb, arith}
+use Rattle.std.proofs.Common.{◌≡◌, ℕ, zero, suc, ◌-◌, ◌<◌, ◌≤◌, ◌⊎◌, inl, inr, Bool, true, false, cond, eqb, List, [], ◌∷◌, ◌++◌, length, get_or, set, refl, subst, eqb-true, eq-eqb, arith}
 use Rattle.std.proofs.lemmas.Bool.{cases_eq, cases_lt, false≢true}
 use Rattle.document.specs.Rows.{selection_of, is_field, is_spread}
 use Rattle.stored_tables.specs.declared.stored.StoredDocument.{StoredDocument}
 use Rattle.walking.specs.declared.turn.Scope.{Scope}
 use Rattle.walking.specs.declared.turn.Scope.TheVariants.{Deep, Flat}
 use Rattle.walking.specs.declared.turn.WalkStep.{WalkStep}
-use Rattle.walking.specs.Tables.{row_at, fragment_at, Field, Names, InShape}
+use Rattle.walking.specs.Tables.{row_at, fragment_at, Field, InShape}
 use Rattle.walking.specs.Walk.{after, Fresh, Walk, done, field, enter, pass}
 use Rattle.walking.specs.Turning.{step_at, Pending, tally}
 use Rattle.walking.proofs.Steps.{tally_marked}

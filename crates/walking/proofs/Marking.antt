@@ -1,11 +1,10 @@
 -- What a walk does to the marks.
-use Rattle.std.proofs.Common.{◌≡◌, ℕ, suc, ◌+◌, ◌<◌, ◌≤◌, ◌⊎◌, inl, inr, List, length, get_or, set, sym, refl, ◌∙◌, length-set, arith}
+use Rattle.std.proofs.Common.{◌≡◌, ℕ, ◌≤◌, ◌⊎◌, inl, inr, List, length, get_or, set, refl, ◌∙◌, length-set, arith}
 use Rattle.std.proofs.lemmas.Bool.{cases_eq}
 use Rattle.stored_tables.specs.declared.stored.StoredDocument.{StoredDocument}
 use Rattle.walking.specs.declared.turn.Scope.{Scope}
-use Rattle.walking.specs.Tables.{fragment_at}
 use Rattle.walking.specs.Walk.{Fresh, Walk, done, field, enter, pass}
-use Rattle.walking.proofs.Places.{Marked, now_marked, still_marked, was_clear}
+use Rattle.walking.proofs.Places.{Marked, now_marked, still_marked}
 
 pub wide : {n : ℕ} (m : List ℕ) (f : ℕ) → n ≤ length m → n ≤ length (set m f 1)
 wide m f long = omega (arith, length-set m f 1)

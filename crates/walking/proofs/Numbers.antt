@@ -1,6 +1,5 @@
 -- What the kind of a row says of it.
-use Rattle.std.proofs.Common.{◌≡◌, ℕ, Bool, true, false, cond, eqb, Some, None, Option, sym, refl, ap, ◌∙◌, eqb-true, arith}
-use Rattle.document.specs.declared.kinds.SelectionKind.{SelectionKind}
+use Rattle.std.proofs.Common.{◌≡◌, ℕ, true, eqb, Some, None, ◌∙◌, eqb-true, arith}
 use Rattle.document.specs.declared.kinds.SelectionKind.TheVariants.{Field, Spread, InlineFragment}
 use Rattle.document.specs.Kinds.{selection_kind}
 

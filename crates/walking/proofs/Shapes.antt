@@ -1,8 +1,7 @@
 -- Where tables have no fault and a sound index, their definitions have the shape that a walk relies on.
-use Rattle.std.proofs.Common.{◌≡◌, ℕ, zero, suc, ◌+◌, ◌<◌, ◌≤◌, ◌⊎◌, inl, inr, Bool, true, false, cond, eqb, ◌&&◌, ◌||◌, List, [], ◌∷◌, ◌++◌, map, length, get_or, count_by, Some, None, Option, sym, refl, ap, ◌∙◌, subst, eqb-true, leb-false, arith}
-use Rattle.std.specs.List.{list_any}
+use Rattle.std.proofs.Common.{◌≡◌, ℕ, zero, suc, ◌+◌, ◌<◌, ◌≤◌, ◌⊎◌, inl, inr, Bool, true, false, cond, eqb, ◌&&◌, List, [], ◌∷◌, map, length, get_or, count_by, Some, None, Option, sym, refl, ap, ◌∙◌, subst, eqb-true, leb-false, arith}
 use Rattle.std.specs.Option.{is_some}
-use Rattle.std.proofs.lemmas.Bool.{cases_lt, cases_Bool, le-leb, lt-ltb, ltb-false, and_from, or_parts, not-false, false≢true, eq-eqb}
+use Rattle.std.proofs.lemmas.Bool.{cases_lt, le-leb, lt-ltb, and_from, or_parts, not-false, false≢true, eq-eqb}
 use Rattle.std.proofs.lemmas.List.{get_or-map, length-map}
 use Rattle.std.proofs.lemmas.List.Sums.{sum_by-cons}
 use Rattle.std.proofs.lemmas.Option.{get_or_from_slice_get, slice_get_within}
@@ -11,7 +10,6 @@ use Rattle.layout.specs.declared.row.RowView.{RowView}
 use Rattle.layout.specs.declared.row.RowFault.TheVariants.{NameMissing, Broken, TooDeep}
 use Rattle.layout.specs.Places.{no_view, fault_in, own_fault, breaks}
 use Rattle.document.specs.declared.kinds.DefinitionKind.TheVariants.{Operation, Fragment}
-use Rattle.selection_rules.specs.declared.stored.StoredRow.{StoredRow}
 use Rattle.selection_rules.specs.Stored.{stored_view}
 use Rattle.ordered_index.specs.Keys.{same_name, name_hash}
 use Rattle.ordered_index.specs.Sound.{Sound}
@@ -20,8 +18,8 @@ use Rattle.stored_tables.specs.declared.stored.StoredDocument.{StoredDocument}
 use Rattle.stored_tables.specs.declared.fault.StoredFault.{StoredFault}
 use Rattle.stored_tables.specs.declared.fault.StoredFault.TheVariants.{InAnonymous, InOperations, InFragments, InRows}
 use Rattle.stored_tables.specs.Layout.{name_of}
-use Rattle.stored_tables.specs.Verdict.{first_place, definition_at, no_stored_definition, misplaced, whole_as, anonymous_broken, anonymous_whole, broken_definition, holds, unfit, unfit_in, stray, broken_row, alone, all_stored, told_in}
-use Rattle.stored_tables.specs.Ranges.{Placed, InOrder}
+use Rattle.stored_tables.specs.Verdict.{definition_at, no_stored_definition, whole_as, anonymous_broken, holds, unfit_in, stray, broken_row, alone, all_stored, told_in}
+use Rattle.stored_tables.specs.Ranges.{InOrder}
 use Rattle.stored_tables.proofs.Places.{no_place}
 use Rattle.stored_tables.proofs.Following.{clean_in_order, held_in_all, in_place}
 use Rattle.finished_tables.specs.declared.indexed.IndexedDocument.{IndexedDocument}

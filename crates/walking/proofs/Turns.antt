@@ -1,12 +1,12 @@
 -- The turns of a walk: a step ends, a field is met, a fragment is entered, a row is passed over.
-use Rattle.std.proofs.Common.{◌≡◌, ℕ, zero, suc, ◌+◌, ◌-◌, ◌<◌, ◌≤◌, ◌⊎◌, inl, inr, List, [], ◌∷◌, ◌++◌, length, get_or, set, Some, None, sym, refl, ap, ◌∙◌, subst, add-one, append_assoc, length-set, arith}
+use Rattle.std.proofs.Common.{◌≡◌, ℕ, suc, ◌+◌, ◌<◌, ◌≤◌, ◌⊎◌, inl, inr, List, [], ◌∷◌, ◌++◌, length, set, Some, None, sym, refl, ap, ◌∙◌, subst, add-one, append_assoc, length-set, arith}
 use Rattle.std.proofs.lemmas.Bool.{cases_eq}
 use Rattle.stored_tables.specs.declared.stored.StoredDocument.{StoredDocument}
 use Rattle.walking.specs.declared.turn.Scope.{Scope}
 use Rattle.walking.specs.declared.turn.WalkStep.{WalkStep}
 use Rattle.walking.specs.Tables.{fragment_at, Field, InShape}
 use Rattle.walking.specs.Walk.{after, Fresh, Walk, done, field, enter, pass}
-use Rattle.walking.specs.Turning.{Going, going, step_at, Pending, load, tally, turns, left, Ready, Turned}
+use Rattle.walking.specs.Turning.{going, step_at, Pending, load, tally, turns, Ready, Turned}
 use Rattle.walking.proofs.Steps.{step_written, step_other, pending_below, load_below, tally_marked}
 
 -- a stack whose top step, the one at k, is written

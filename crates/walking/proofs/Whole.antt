@@ -1,5 +1,5 @@
 -- A list that is long enough for the rows takes all places.
-use Rattle.std.proofs.Common.{◌≡◌, ℕ, ◌+◌, ◌*◌, ◌||◌, List, ◌++◌, length, drop, Some, sym, ◌∙◌, arith}
+use Rattle.std.proofs.Common.{◌≡◌, ℕ, ◌+◌, ◌*◌, ◌||◌, List, ◌++◌, length, drop, Some, ◌∙◌, arith}
 use Rattle.std.proofs.lemmas.Bool.{or_parts, ltb-false}
 use Rattle.std.specs.Prelude.{nat_lt}
 use Rattle.finished_tables.specs.declared.indexed.IndexedDocument.{IndexedDocument}

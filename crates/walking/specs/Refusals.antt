@@ -1,5 +1,5 @@
 -- When a walk is refused, and what is the case where it is not; and what becomes of a list that is lent.
-use Rattle.std.specs.Prelude.{◌≡◌, ◌⊎◌, ℕ, zero, suc, ◌+◌, ◌*◌, Bool, true, false, ◌||◌, List, length, Some, None, Option, nat_lt, slice_get, option_map}
+use Rattle.std.specs.Prelude.{◌≡◌, ℕ, zero, suc, ◌+◌, ◌*◌, Bool, true, false, ◌||◌, length, Some, None, Option, nat_lt, slice_get}
 use Rattle.finished_tables.specs.declared.indexed.IndexedDocument.{IndexedDocument}
 use Rattle.finished_tables.specs.Indexes.{HasIndexes}
 use Rattle.stored_tables.specs.declared.definition.StoredDefinition.{StoredDefinition}

@@ -1,5 +1,5 @@
 -- What a walk reads in tables of stored definitions and rows, and what it can rely on where they have no fault.
-use Rattle.std.specs.Prelude.{◌≡◌, ℕ, ◌≤◌, ◌<◌, true, List, length, slice_index_or}
+use Rattle.std.specs.Prelude.{◌≡◌, ℕ, ◌≤◌, ◌<◌, true, length, slice_index_or}
 use Rattle.document.specs.Rows.{selection_of, is_field, is_spread}
 use Rattle.selection_rules.specs.declared.stored.StoredRow.{StoredRow}
 use Rattle.stored_tables.specs.declared.definition.StoredDefinition.{StoredDefinition}

@@ -1,6 +1,5 @@
 -- What a turn of a walk keeps and does: of its stack, of the marks, and of what is still to be listed.
 use Rattle.std.specs.Prelude.{◌≡◌, ◌≢◌, ℕ, zero, suc, ◌+◌, ◌-◌, ◌≤◌, ◌<◌, cond, List, [], ◌∷◌, ◌++◌, length, Some, None, Option, IfSome, ◌==◌, slice_index, slice_index_or}
-use Rattle.stored_tables.specs.declared.definition.StoredDefinition.{StoredDefinition}
 use Rattle.stored_tables.specs.declared.stored.StoredDocument.{StoredDocument}
 use Rattle.walking.specs.declared.turn.Scope.{Scope}
 use Rattle.walking.specs.declared.turn.WalkStep.{WalkStep}

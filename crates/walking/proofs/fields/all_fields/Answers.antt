@@ -1,5 +1,5 @@
 -- A list that is lent is long enough for all places.
-use Rattle.std.proofs.Common.{List, length, sym, ap, ◌∙◌}
+use Rattle.std.proofs.Common.{length}
 use Rattle.std.proofs.lemmas.Result.{MatchResult-weaker}
 use Rattle.walking.proofs.Whole.{in_whole}
 use Rattle.walking.proofs.fields.all_fields.Goals as goal

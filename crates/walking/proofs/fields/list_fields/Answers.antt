@@ -1,5 +1,5 @@
 -- The places that the walk comes upon are written one after the other, and counted.
-use Rattle.std.proofs.Common.{◌≡◌, ℕ, ◌+◌, ◌<◌, ◌≤◌, List, [], ◌∷◌, ◌++◌, length, set, replicate, Some, None, Option, refl, sym, ap, ◌∙◌, subst, length-append, arith}
+use Rattle.std.proofs.Common.{◌≡◌, ℕ, List, [], ◌∷◌, ◌++◌, length, set, replicate, refl, ap, ◌∙◌, length-append, arith}
 use Rattle.std.proofs.Math.Seq.{take-nil}
 use Rattle.walking.specs.declared.turn.Scope.TheVariants.{Deep}
 use Rattle.walking.specs.Turning.{going}

@@ -1,5 +1,4 @@
 -- The operation that is judged is walked, with the marks that the guard has cleared.
-use Rattle.std.proofs.Common.{◌≡◌, ℕ, sym, ap, ◌∙◌}
 use Rattle.walking.proofs.Exact.{listed}
 use Rattle.walking.proofs.Shapes.{walkable}
 use Rattle.walking.proofs.fields.walk_fields.Goals as goal

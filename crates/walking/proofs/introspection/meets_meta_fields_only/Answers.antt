@@ -1,5 +1,5 @@
 -- The walk goes on while it meets meta-fields.
-use Rattle.std.proofs.Common.{◌≡◌, ℕ, ◌≤◌, false, true, [], ◌∷◌, ◌++◌, length, replicate, refl, ap, ◌∙◌, arith}
+use Rattle.std.proofs.Common.{◌≡◌, ℕ, [], ◌∷◌, ◌++◌, length, replicate, refl, ap, ◌∙◌, arith}
 use Rattle.std.proofs.lemmas.Bool.{false≢true}
 use Rattle.walking.specs.declared.turn.Scope.TheVariants.{Flat}
 use Rattle.walking.specs.Turning.{going}

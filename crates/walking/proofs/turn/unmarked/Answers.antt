@@ -1,5 +1,4 @@
 -- The fragment that is found is the only one of its name.
-use Rattle.std.proofs.Common.{◌≡◌, map, sym, ap, ◌∙◌, subst}
 use Rattle.walking.proofs.Found.{one_found, none_found, marked_found}
 use Rattle.walking.proofs.turn.unmarked.Goals as goal
 
