@@ -43,9 +43,9 @@ module _ (d : StoredDocument) (shape : InShape d) where
           let marked : Marked m′ g = keeps (wide_after m g long v) w g (entered m i g long c v) in (
             λ k. absurd (one_not_two _ (subst (λ (x : ℕ). Field d x) same k) c.names.spread),
             λ f n.
-              let at = subst (λ (x : ℕ). Names d x f) same n in
-              let is : g ≡ f = shape.names g f c.names.there at.there (c.names.named ∙ sym at.named) in
-              subst (λ (x : ℕ). Marked m′ x) is marked,
+                let at = subst (λ (x : ℕ). Names d x f) same n in
+                let is : g ≡ f = shape.names g f c.names.there at.there (c.names.named ∙ sym at.named) in
+                subst (λ (x : ℕ). Marked m′ x) is marked,
           )
       go ih (inr other) = let r = ih (omega arith) in (λ k. among_right q ps qs (r.0 k), r.1)
   closed_here {m} {i} {e} long (pass {places = ps} {marks′ = m′} l n o w) q a b = go (λ k. closed_here long w q k b) (cases_eq q i)

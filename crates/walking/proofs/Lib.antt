@@ -14,3 +14,4 @@ pub mod Under
 pub mod Few
 pub mod Shapes
 pub mod Whole
+pub mod Metas

@@ -183,17 +183,17 @@ module _ (d : StoredDocument) (whole : Faultless d) where
       → (s.row.end ≤ length d.rows.now) × ((p : ℕ) → Beneath s p → 1 ≤ count_by (holds p) d.operations.now + count_by (holds p) (alone d.anonymous))
   operation_placed zero s there =
       let whole_one : anonymous_broken (length d.rows.now) (Some s) ≡ false = subst (λ (x : Option StoredDefinition). anonymous_broken (length d.rows.now) x ≡ false) there whole.anonymous in
-      let placed = in_place 0 (length d.rows.now) s (or_parts _ _ whole_one).1 in
-      (placed.placed.within,
+      let placed = in_place 0 (length d.rows.now) s (or_parts _ _ whole_one).1 in (
+        placed.placed.within,
         λ p b.
-          let one : 1 ≤ count_by (holds p) (alone (Some s)) = counts_one p (s ∷ []) 0 (omega arith) (held s p b) in
-          let same : 1 ≤ count_by (holds p) (alone d.anonymous) = subst (λ (x : Option StoredDefinition). 1 ≤ count_by (holds p) (alone x)) (sym there) one in
-          omega arith,
+            let one : 1 ≤ count_by (holds p) (alone (Some s)) = counts_one p (s ∷ []) 0 (omega arith) (held s p b) in
+            let same : 1 ≤ count_by (holds p) (alone d.anonymous) = subst (λ (x : Option StoredDefinition). 1 ≤ count_by (holds p) (alone x)) (sym there) one in
+            omega arith,
       )
   operation_placed (suc n) s there =
       let is = get_or_from_slice_get d.operations.now n s no_stored_definition there in
-      let low = slice_get_within d.operations.now n s there in
-      (subst (λ (x : StoredDefinition). x.row.end ≤ length d.rows.now) is (all_within (length d.rows.now) 0 d.operations.now n whole.operations low),
+      let low = slice_get_within d.operations.now n s there in (
+        subst (λ (x : StoredDefinition). x.row.end ≤ length d.rows.now) is (all_within (length d.rows.now) 0 d.operations.now n whole.operations low),
         λ p b. let one = counts_one p d.operations.now n low (ap (holds p) is ∙ held s p b) in omega arith,
       )
 

@@ -2,6 +2,7 @@
 pub mod Tables
 pub mod Walk
 pub mod Listed
+pub mod Introspection
 pub mod Lent
 pub mod Refusals
 pub mod Answers

@@ -1,5 +1,5 @@
 // All fields that an operation reaches, in the order of a walk.
-ghost use Rattle.std.specs.Prelude.{◌≡◌, ℕ, ◌+◌, false, List, ◌++◌, map, length, drop, replicate, MatchResult, OnErr, OnOk};
+ghost use Rattle.std.specs.Prelude.{◌≡◌, ℕ, ◌+◌, List, ◌++◌, map, length, drop, replicate, MatchResult, OnErr, OnOk};
 ghost use Rattle.ordered_index.specs.Keys.{same_name, name_hash};
 ghost use Rattle.ordered_index.specs.Sound.{Sound};
 ghost use Rattle.stored_tables.specs.Layout.{name_of};
@@ -9,7 +9,6 @@ ghost use Rattle.walking.specs.Walk.{Listing};
 ghost use Rattle.walking.specs.Lent.{Lent, lent_long, written_over};
 ghost use Rattle.walking.specs.Refusals.{Refused};
 ghost use Rattle.walking.specs.Answers.{lengths, FieldsOf};
-
 
 use crate::fault::WalkFault;
 use crate::judge::{Lengths, judge};

@@ -3,10 +3,12 @@
 
 mod fault;
 mod fields;
+mod introspection;
 mod judge;
 mod marks;
 mod turn;
 
 pub use fault::WalkFault;
 pub use fields::all_fields;
+pub use introspection::is_introspection;
 pub use turn::WalkStep;

@@ -1,6 +1,6 @@
 // The turns of a walk. Rows stand in preorder, so walking a definition is a scan of its range; the stack holds a step for
 // each definition that is open.
-ghost use Rattle.std.specs.Prelude.{◌≡◌, ℕ, ◌<◌, map, length, slice_index};
+ghost use Rattle.std.specs.Prelude.{◌≡◌, ◌<◌, map, length};
 ghost use Rattle.ordered_index.specs.Keys.{same_name, name_hash};
 ghost use Rattle.ordered_index.specs.Sound.{Sound};
 ghost use Rattle.stored_tables.specs.Layout.{name_of};
@@ -19,7 +19,7 @@ pub struct WalkStep {
 }
 
 /// Whether a walk looks at the rows beneath a field.
-#[derive(Clone, Copy, PartialEq, Eq)]
+#[derive(Clone, Copy)]
 pub enum Scope {
     Deep,
     Flat,
@@ -31,11 +31,7 @@ fn unmarked(document: &IndexedDocument<'_>, name: u32, marks: &[u8]) -> Option<u
     requires each { length marks.now ≡ length document.now.stored.fragments.now }
     ensures { FirstNamed document.now.stored marks.now name result }
 {
-    let place = find(
-        document.stored.fragments,
-        document.fragment_slots,
-        &name,
-    )?;
+    let place = find(document.stored.fragments, document.fragment_slots, &name)?;
     if marks[place] != 0 {
         return None;
     }

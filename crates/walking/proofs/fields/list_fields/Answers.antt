@@ -12,8 +12,8 @@ use Rattle.walking.proofs.fields.list_fields.Goals.{then-count-list, else-count-
 pub loop-depth-init : goal.loop-depth-init
 loop-depth-init c =
     let d = c.args.document.now.stored in
-    let clear : c.clear-marks.result.0.now ≡ replicate (length d.fragments.now) 0 = c.clear-marks.ensures.cleared ∙ ap (λ (n : ℕ). replicate n 0) c.requires.wide in
-    (refl,
+    let clear : c.clear-marks.result.0.now ≡ replicate (length d.fragments.now) 0 = c.clear-marks.ensures.cleared ∙ ap (λ (n : ℕ). replicate n 0) c.requires.wide in (
+      refl,
       refl,
       [],
       under_way d Deep c.args.operation.now c.requires.walkable c.args.stack.now c.clear-marks.result.0.now c.requires.tall clear,
@@ -38,8 +38,8 @@ loop-depth-preserved-in-Some c =
     let counted = c.loop-depth.invariant.4 in
     let shown = c.loop-depth.invariant.5 in
     let xs = c.args.list.now in
-    let long = c.loop-depth.auto.list in
-    (refl,
+    let long = c.loop-depth.auto.list in (
+      refl,
       c.turn.auto.marks ∙ c.loop-depth.invariant.1,
       out ++ c.in-Some.place ∷ [],
       on,

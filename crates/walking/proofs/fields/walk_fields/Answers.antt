@@ -18,4 +18,3 @@ returns-clause-answer c =
       counted = l.2;
       listed = l.3;
     }
-
