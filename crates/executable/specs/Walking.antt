@@ -11,7 +11,7 @@ use Rattle.walking.specs.declared.fault.WalkFault.TheVariants as walk
 use Rattle.walking.specs.declared.judge.Lengths.{Lengths}
 use Rattle.walking.specs.Refusals.{Refused}
 use Rattle.walking.specs.Listed.{Among, Distinct}
-use Rattle.walking.specs.Answers.{FieldsOf}
+use Rattle.walking.specs.Answers.{FieldsOf, IntrospectionOf}
 use Rattle.builder.specs.declared.executable.ExecutableDocument.{ExecutableDocument}
 use Rattle.builder.specs.Finished.{finished_short, ReadFrom}
 use Rattle.executable.specs.declared.fault.ExecutableFault.{ExecutableFault}
@@ -53,3 +53,9 @@ ListsReached ks operation written (Err fault.WalkTooShort) = Unit {0}
 ListsReached ks operation written (Err (fault.Stored f)) = ⊥
 ListsReached ks operation written (Err fault.IndexUnfit) = ⊥
 ListsReached ks operation written (Err fault.NoOperation) = (number : ℕ) → IsNumbered ks operation number → ⊥
+
+-- the same of a walk that tells whether the operation is introspection only
+pub data IntrospectionAnswer {S : Type 0} (d : ExecutableDocument S) (t : Tables) (operation : ℕ) (lent : Lengths) : Result Bool ExecutableFault → Type 0 where
+  short : finished_short d t ≡ true → IntrospectionAnswer d t operation lent (Err fault.TableTooShort)
+  refused : (x : IndexedDocument) (f : WalkFault) → ReadFrom d t x → Refused x operation lent f → IntrospectionAnswer d t operation lent (Err (walk_fault f))
+  told : (x : IndexedDocument) (r : Bool) → ReadFrom d t x → IntrospectionOf x operation lent r → IntrospectionAnswer d t operation lent (Ok r)

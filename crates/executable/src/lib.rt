@@ -4,7 +4,9 @@
 mod comparing;
 mod fault;
 mod fields;
+mod introspection;
 
 pub use comparing::compare;
 pub use fault::ExecutableFault;
 pub use fields::all_fields;
+pub use introspection::is_introspection;
