@@ -10,7 +10,7 @@ use Rattle.builder.specs.Certificate.{Stands}
 use Rattle.builder.specs.Lent.{Untouched}
 use Rattle.scripts.specs.declared.script.Adding.{Adding}
 use Rattle.scripts.specs.declared.script.ScriptFault.{ScriptFault}
-use Rattle.scripts.specs.declared.script.ScriptFault.TheVariants.{AnswersTooShort, NoBuilder}
+use Rattle.scripts.specs.declared.script.ScriptFault.TheVariants.{AnswersTooShort, NoBuilder, Finished}
 use Rattle.scripts.specs.Script.{lengths_of, answers_from, calls_from}
 
 -- the script was run: each answer is the one that the rules give at that point, and the builder and its tables came out of the
@@ -28,3 +28,4 @@ Runs meaning m before after script old new (Ok b) = Ran meaning m before after s
 Runs meaning m before after script old new (Err AnswersTooShort) = (length old < length script) × (new ≡ old) × Untouched before after
 Runs meaning m before after script old new (Err (NoBuilder f)) =
     (length script ≤ length old) × (slots_short before ≡ true) × (f ≡ IndexUnfit) × (new ≡ old) × Untouched before after
+Runs meaning m before after script old new (Err (Finished f)) = ⊥

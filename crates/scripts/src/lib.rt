@@ -2,8 +2,10 @@
 // comes of it is said of the script and the schema's answers alone.
 #![tactic(auto)]
 
+mod outcomes;
 mod running;
 mod script;
 
+pub use outcomes::{build_the_same, lists_errors};
 pub use running::run;
 pub use script::{Adding, ScriptFault};

@@ -1,6 +1,7 @@
 // A script, and why it is not run.
 use builder::BuilderFault;
 use document::Document;
+use executable::ExecutableFault;
 use thiserror::Error;
 
 /// One call of a script: a document to add, strict or not.
@@ -19,4 +20,18 @@ pub enum ScriptFault {
     /// No builder is made.
     #[error("{0}")]
     NoBuilder(BuilderFault),
+    /// A finished document is refused. No script comes to that.
+    #[error("{0}")]
+    Finished(ExecutableFault),
+}
+
+impl From<ExecutableFault> for ScriptFault {
+    ghost use Rattle.std.specs.Prelude.{◌≡◌};
+    ghost use Rattle.scripts.specs.declared.script.ScriptFault.TheVariants as fault;
+
+    ghost from_gives = { λ e r. r ≡ fault.Finished e };
+
+    fn from(e: ExecutableFault) -> ScriptFault {
+        ScriptFault::Finished(e)
+    }
 }
