@@ -1,6 +1,6 @@
 -- The faults of calls on finished documents as refusals.
 use Rattle.std.specs.Prelude.{ℕ, ◌-◌, ◌^◌, min}
-use Rattle.refusal.specs.declared.Layer.TheVariants.{FinishedDocument}
+use Rattle.refusal.specs.declared.Layer.TheVariants as layer
 use Rattle.refusal.specs.declared.Reason.TheVariants as reason
 use Rattle.refusal.specs.declared.Refusal.{Refusal}
 use Rattle.refusal.specs.Layers.{refused}
@@ -13,8 +13,8 @@ abbrev pub row_number : ℕ → ℕ
 row_number row = min row (2 ^ 32 - 1)
 
 abbrev pub executable_refusal : ExecutableFault → Refusal
-executable_refusal TableTooShort = refused reason.TableTooShort FinishedDocument 0
-executable_refusal WalkTooShort = refused reason.WalkTooShort FinishedDocument 0
-executable_refusal (Stored fault) = refused reason.StoredBroken FinishedDocument (row_number (row_of fault))
-executable_refusal IndexUnfit = refused reason.IndexUnfit FinishedDocument 0
-executable_refusal NoOperation = refused reason.NoOperation FinishedDocument 0
+executable_refusal TableTooShort = refused reason.TableTooShort layer.FinishedDocument 0
+executable_refusal WalkTooShort = refused reason.WalkTooShort layer.FinishedDocument 0
+executable_refusal (Stored fault) = refused reason.StoredBroken layer.FinishedDocument (row_number (row_of fault))
+executable_refusal IndexUnfit = refused reason.IndexUnfit layer.FinishedDocument 0
+executable_refusal NoOperation = refused reason.NoOperation layer.FinishedDocument 0
