@@ -1,8 +1,10 @@
-// The tables that a builder fills, owned on the heap: of given lengths, and lent to the builder's calls.
+// The tables that a builder fills, and those that a walk uses, owned on the heap and lent to the calls.
 #![tactic(auto)]
 
 mod lengths;
 mod tables;
+mod walks;
 
 pub use lengths::TableLengths;
 pub use tables::OwnedTables;
+pub use walks::WalkTables;

@@ -1,44 +1,92 @@
-// Builds the documents of a test case, side by side, and prints what came of it.
+// Builds the documents of a test case, side by side, prints what came of it, and compares the sides.
 use crate::listing::print_built;
 use crate::parts::{Case, SchemaPart, Side};
-use builder::ExecutableDocumentBuilder;
+use crate::refused::print_refusal;
+use crate::walks::print_walks;
+use builder::{BuilderFault, ExecutableDocument, ExecutableDocumentBuilder};
+use executable::compare;
 use owned_tables::{OwnedTables, TableLengths};
-use refusal::Refusal;
 use schema::{OpenSchema, Schema};
 use std::io;
+use stored_tables::Tables;
 use table_schema::schema_with_meta_fields;
 
-fn print_refusal(rt: &HostRuntime, refusal: Refusal) -> io::Result<()> {
-    let number = refusal.reason.number();
-    let layer = refusal.layer.number();
-    let row = refusal.row;
-    println!(rt; "refused {number} {layer} {row}")
+/// The finished document of a side, and the tables in which it stands.
+#[derive(Drop)]
+struct Finished<'s, S> {
+    tables: OwnedTables,
+    document: ExecutableDocument<'s, S>,
 }
 
-// Adds the documents of a side to a builder of its own.
-fn print_side<S: Schema>(rt: &HostRuntime, schema: &S, side: &Side) -> io::Result<()> {
-    let mut owned = OwnedTables::new(rt.alloc(), side.tables.unwrap_or(TableLengths::FULL))?;
-    let mut tables = owned.lend();
-    let mut builder = match ExecutableDocumentBuilder::new(schema, &mut tables) {
-        Ok(builder) => builder,
-        Err(fault) => return print_refusal(rt, fault.into()),
-    };
+// Adds the documents of a side to a builder of its own, prints what is built, and finishes it.
+fn build_side<'s, S: Schema>(
+    rt: &HostRuntime,
+    mut builder: ExecutableDocumentBuilder<'s, S>,
+    tables: &mut Tables<'_>,
+    side: &Side,
+) -> io::Result<ExecutableDocument<'s, S>> {
     for part in side.documents.iter() {
-        let added = builder.add_ast_document(&mut tables, &part.handed(), part.is_strict);
+        let added = builder.add_ast_document(tables, &part.handed(), part.is_strict);
         if let Err(fault) = added {
-            print_refusal(rt, fault.into())?;
+            print_refusal(rt, fault)?;
         }
     }
-    print_built(rt, &builder, &tables)
+    print_built(rt, &builder, tables)?;
+    let document = builder.build();
+    print_walks(rt, &document, tables)?;
+    Ok(document)
 }
 
-// Builds each side over the schema, whichever it is.
+// Builds a side in tables of its own, and prints what came of it. There is none where its tables are refused.
+fn print_side<'s, S: Schema>(
+    rt: &HostRuntime,
+    schema: &'s S,
+    side: &Side,
+) -> io::Result<Option<Finished<'s, S>>> {
+    let mut owned = OwnedTables::new(rt.alloc(), side.tables.unwrap_or(TableLengths::FULL))?;
+    let mut tables = owned.lend();
+    let builder = match ExecutableDocumentBuilder::new(schema, &mut tables) {
+        Ok(builder) => builder,
+        Err(fault) => {
+            print_refusal(rt, fault)?;
+            return Ok(None);
+        }
+    };
+    let document = build_side(rt, builder, &mut tables, side)?;
+    Ok(Some(Finished {
+        tables: owned,
+        document,
+    }))
+}
+
+// Prints whether the documents of two sides are the same.
+fn print_equal<S: Schema>(
+    rt: &HostRuntime,
+    a: &mut Finished<'_, S>,
+    b: &mut Finished<'_, S>,
+) -> io::Result<()> {
+    match compare(&a.document, &a.tables.lend(), &b.document, &b.tables.lend()) {
+        Ok(equal) => {
+            let equal = u32::from(equal);
+            println!(rt; "equal {equal}")
+        }
+        Err(fault) => print_refusal(rt, fault),
+    }
+}
+
+// Builds each side over the schema, whichever it is, and compares them where there are two.
 fn print_sides<S: Schema>(rt: &HostRuntime, schema: &S, sides: &[Side]) -> io::Result<()> {
+    let mut finished = Vec::new(rt.alloc());
     for (number, side) in sides.iter().enumerate() {
         println!(rt; "side {number}")?;
-        print_side(rt, schema, side)?;
+        if let Some(side) = print_side(rt, schema, side)? {
+            finished.push(side)?;
+        }
     }
-    Ok(())
+    match finished.as_mut_slice() {
+        [a, b] => print_equal(rt, a, b),
+        _ => Ok(()),
+    }
 }
 
 /// Prints what comes of a case: the refusal of its schema, or what each side builds.
@@ -50,7 +98,7 @@ pub fn print_case(rt: &HostRuntime, case: &Case) -> io::Result<()> {
         SchemaPart::Open => print_sides(rt, &OpenSchema, sides)?,
         SchemaPart::Table(table) => match schema_with_meta_fields(rt.alloc(), &table.rows()) {
             Ok(schema) => print_sides(rt, &schema, sides)?,
-            Err(fault) => print_refusal(rt, fault.into())?,
+            Err(fault) => print_refusal(rt, fault)?,
         },
     }
     println!(rt; "end")

@@ -4,9 +4,9 @@ use selection_rules::{BuildError, ExecutableDefinitionName, SelectionPath, Store
 use std::fmt;
 use stored_tables::StoredDefinition;
 
-// Numbers with a blank before each.
+/// Numbers with a blank before each.
 #[derive(Clone, Copy)]
-struct Numbers<'a>(&'a [u32]);
+pub struct Numbers<'a>(pub &'a [u32]);
 
 impl fmt::Display for Numbers<'_> {
     fn fmt<W: fmt::Write>(&self, f: &mut fmt::Formatter<W>) -> fmt::Result {

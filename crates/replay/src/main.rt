@@ -1,8 +1,8 @@
 // Reads test cases in their text form from the standard input, builds the documents of each over its schema, and prints
-// what is refused, listed and stored.
+// what is refused, listed and stored, what the operations reach, and whether two sides are the same.
 //
-// `words` takes the text apart, `parts` says what a case is made of, and `reading` reads it; `building` builds, and `lines`
-// and `listing` write what came of it.
+// `words` takes the text apart, `parts` says what a case is made of, and `reading` reads it; `building` builds and compares,
+// `walks` walks, and `lines`, `listing` and `refused` write what came of it.
 #![tactic(auto)]
 
 mod building;
@@ -10,6 +10,8 @@ mod lines;
 mod listing;
 mod parts;
 mod reading;
+mod refused;
+mod walks;
 mod words;
 
 use building::print_case;
