@@ -1,4 +1,4 @@
-// Adds the documents of a schema to one builder over it.
+// Adds the documents of a schema to one builder over it, and finishes what is built.
 use crate::printer::Printer;
 use crate::refusals::Refused;
 use crate::sections::DocumentText;
@@ -9,7 +9,8 @@ use std::alloc::AllocError;
 use stored_tables::Tables;
 
 impl<'n, 'a> Printer<'n, 'a> {
-    /// Adds each document and whether the builder takes it, and in the end what is built of them, whichever schema it is.
+    /// Adds each document and whether the builder takes it, and in the end what is built of them and what it
+    /// reaches, whichever schema it is.
     pub fn building<S: Schema>(
         &mut self,
         schema: &S,
@@ -28,7 +29,8 @@ impl<'n, 'a> Printer<'n, 'a> {
             self.document(number, text)?;
             self.adding(&mut builder, &mut tables, text)?;
         }
-        self.built(&builder, &tables)
+        self.built(&builder, &tables)?;
+        self.walks(&builder.build(), &tables)
     }
 
     /// Adds that the builder takes the document, or why it does not. Of one that is none this stands there already, in
