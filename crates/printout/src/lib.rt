@@ -1,5 +1,5 @@
 // The printout of a text: what was read of each schema, the answer to each question, each document, what is built of the
-// documents, and what their operations reach, in words.
+// documents, what their operations reach, and whether two builders come to the same, in words.
 #![tactic(auto)]
 
 mod answers;
