@@ -1,2 +1,3 @@
 -- The lemmas of the crate, in the order in which they are needed.
 pub mod Compared
+pub mod Walked

@@ -1,6 +1,7 @@
 -- The faults of calls on finished documents as refusals.
 use Rattle.std.specs.Prelude.{ℕ, ◌-◌, ◌^◌, min}
-use Rattle.refusal.specs.declared.Layer.TheVariants.{FinishedDocument}
+use Rattle.refusal.specs.declared.Layer.TheVariants as layer
+use Rattle.refusal.specs.declared.Reason.{Reason}
 use Rattle.refusal.specs.declared.Reason.TheVariants as reason
 use Rattle.refusal.specs.declared.Refusal.{Refusal}
 use Rattle.refusal.specs.Layers.{refused}
@@ -12,9 +13,13 @@ use Rattle.executable.specs.declared.fault.ExecutableFault.TheVariants.{TableToo
 abbrev pub row_number : ℕ → ℕ
 row_number row = min row (2 ^ 32 - 1)
 
+-- a refusal of the layer of finished documents
+abbrev pub topmost : Reason → ℕ → Refusal
+topmost why row = refused why layer.FinishedDocument row
+
 abbrev pub executable_refusal : ExecutableFault → Refusal
-executable_refusal TableTooShort = refused reason.TableTooShort FinishedDocument 0
-executable_refusal WalkTooShort = refused reason.WalkTooShort FinishedDocument 0
-executable_refusal (Stored fault) = refused reason.StoredBroken FinishedDocument (row_number (row_of fault))
-executable_refusal IndexUnfit = refused reason.IndexUnfit FinishedDocument 0
-executable_refusal NoOperation = refused reason.NoOperation FinishedDocument 0
+executable_refusal TableTooShort = topmost reason.TableTooShort 0
+executable_refusal WalkTooShort = topmost reason.WalkTooShort 0
+executable_refusal (Stored fault) = topmost reason.StoredBroken (row_number (row_of fault))
+executable_refusal IndexUnfit = topmost reason.IndexUnfit 0
+executable_refusal NoOperation = topmost reason.NoOperation 0

@@ -1,5 +1,5 @@
 // Walking over the fields of an operation of a finished document.
-ghost use Rattle.std.specs.Prelude.{◌≡◌, List, ◌++◌, length, drop, MatchResult, IfErr, IfOk};
+ghost use Rattle.std.specs.Prelude.{◌≡◌, ◌+◌, List, ◌++◌, length, drop, replicate, OnErr, OnOk};
 ghost use Rattle.schema.specs.Meaning.{Meaning};
 ghost use Rattle.building_rules.specs.Calls.{Call, kept};
 ghost use Rattle.walking.specs.Lent.{Lent, lent_long};
@@ -40,13 +40,16 @@ pub fn all_fields<S: Schema>(
     list: Option<&mut [u32]>,
 ) -> Result<usize, ExecutableFault>
     ensures answer { FieldsAnswer document.now tables.now operation (lengths (length stack.old) (length marks.old) (lent_long list.entry)) (λ places. Lent list.entry list.exit (λ old new. new ≡ places ++ drop (length places) old)) result }
-    ensures refused { IfErr result (λ _. ((stack.new ≡ stack.old) × (marks.new ≡ marks.old) × Lent list.entry list.exit (λ old new. new ≡ old))) }
+    ensures refused { OnErr result ((stack.new ≡ stack.old) × (marks.new ≡ marks.old) × Lent list.entry list.exit (λ old new. new ≡ old)) }
+    ensures marks { OnOk result (marks.new ≡ replicate document.now.fragments 0 ++ drop document.now.fragments marks.old) }
+    ensures further { drop (document.now.fragments + 1) stack.new ≡ drop (document.now.fragments + 1) stack.old }
     ensures kept { (m : Meaning) (calls : List Call) → Finished S.Schema.meaning m calls document.now tables.now → ListsReached (kept m calls) operation (λ places. Lent list.entry list.exit (λ old new. new ≡ places ++ drop (length places) old)) result }
 {
     let Some(stored) = document.stored(tables) else {
         return Err(ExecutableFault::TableTooShort);
     };
-    Ok(walking::all_fields(
-        &stored, operation, stack, marks, list,
-    )?)
+    match list {
+        Some(list) => Ok(walking::all_fields(&stored, operation, stack, marks, Some(list))?),
+        None => Ok(walking::all_fields(&stored, operation, stack, marks, None)?),
+    }
 }

@@ -100,7 +100,7 @@ module _ {S : Type 0} (meaning : S → Meaning) (m : Meaning) (before : Tables) 
           let l = lengths_of before in
           sym (take-append-drop i answers)
           ∙ ap (λ (xs : List (Option BuilderFault)). xs ++ drop i answers)
-              (sym (append-nil (take i answers)) ∙ ap (λ (es : List Adding). take i answers ++ answers_from l m w.calls es) (sym (drop_all i script over)) ∙ w.answered)
+          (sym (append-nil (take i answers)) ∙ ap (λ (es : List Adding). take i answers ++ answers_from l m w.calls es) (sym (drop_all i script over)) ∙ w.answered)
           ∙ ap (λ (xs : List (Option BuilderFault)). answers_from l m [] script ++ xs) (w.further ∙ ap (λ (k : ℕ). drop k old) at_end)
 
       pub all_called : Stands meaning m (calls_from (lengths_of before) m [] script) b t

@@ -1,5 +1,5 @@
 -- What scripts come to, with no builder and no table in sight: whether errors are listed, and whether two build the same.
-use Rattle.std.specs.Prelude.{◌≡◌, ◌⊎◌, ◌≤◌, ◌<◌, Bool, true, false, ◌↔◌, List, [], ◌++◌, length, drop, Decides, Ok, Err, Option, Result}
+use Rattle.std.specs.Prelude.{◌≡◌, ◌⊎◌, ℕ, ◌≤◌, ◌<◌, Bool, true, false, ◌↔◌, List, [], ◌++◌, length, drop, Decides, Ok, Err, Option, Result}
 use Rattle.schema.specs.Meaning.{Meaning, Closed}
 use Rattle.building_rules.specs.Calls.{Call, accepted, kept}
 use Rattle.building_rules.specs.Rules.{Valid}
@@ -8,6 +8,7 @@ use Rattle.finished_rules.specs.Same.{EachIsSame}
 use Rattle.builder.specs.declared.fault.BuilderFault.{BuilderFault}
 use Rattle.builder.specs.declared.fault.BuilderFault.TheVariants.{IndexUnfit}
 use Rattle.builder.specs.Beginning.{slots_short}
+use Rattle.executable.specs.Walking.{ListsReached}
 use Rattle.scripts.specs.declared.script.Adding.{Adding}
 use Rattle.scripts.specs.declared.script.ScriptFault.{ScriptFault}
 use Rattle.scripts.specs.declared.script.ScriptFault.TheVariants.{AnswersTooShort, NoBuilder, Finished}
@@ -46,3 +47,12 @@ abbrev pub TellsSame : Meaning → Tables → List Adding → List (Option Build
     → Tables → List Adding → List (Option BuilderFault) → List (Option BuilderFault) → Result Bool ScriptFault → Type 0
 TellsSame m t script old new u other other_old other_new (Ok same) = BothRun m t script old new u other other_old other_new same
 TellsSame m t script old new u other other_old other_new (Err f) = NotRun t script old f ⊎ NotRun u other other_old f
+
+-- the fields are walked that a kept operation reaches; what is refused is a walk that is lent too little, or no kept operation
+abbrev pub TellsFields : Meaning → Tables → List Adding → List (Option BuilderFault) → List (Option BuilderFault) → ℕ → (List ℕ → Type 0) → Result ℕ ScriptFault → Type 0
+TellsFields m t script old new operation written (Ok n) =
+    RightAnswers m t script old new × ListsReached (kept m (calls_of m t script)) operation written (Ok n)
+TellsFields m t script old new operation written (Err AnswersTooShort) = NotRun t script old AnswersTooShort
+TellsFields m t script old new operation written (Err (NoBuilder f)) = NotRun t script old (NoBuilder f)
+TellsFields m t script old new operation written (Err (Finished f)) =
+    RightAnswers m t script old new × ListsReached (kept m (calls_of m t script)) operation written (Err f)

@@ -6,6 +6,6 @@ mod outcomes;
 mod running;
 mod script;
 
-pub use outcomes::{build_the_same, lists_errors};
+pub use outcomes::{build_the_same, lists_errors, reaches_fields};
 pub use running::run;
 pub use script::{Adding, ScriptFault};

@@ -1,14 +1,16 @@
 // What scripts come to: whether errors are listed, and whether two scripts build the same.
 ghost use Rattle.std.specs.Prelude.{◌≡◌, [], ◌++◌, length, drop};
 ghost use Rattle.scripts.specs.Script.{lengths_of, answers_from};
-ghost use Rattle.scripts.specs.Outcomes.{TellsErrors, TellsSame};
+ghost use Rattle.walking.specs.Lent.{Lent};
+ghost use Rattle.scripts.specs.Outcomes.{TellsErrors, TellsSame, TellsFields};
 
 use crate::running::run;
 use crate::script::{Adding, ScriptFault};
 use builder::BuilderFault;
-use executable::compare;
+use executable::{all_fields, compare};
 use schema::Schema;
 use stored_tables::Tables;
+use walking::WalkStep;
 
 /// Runs a script on a fresh builder: whether errors are listed then.
 pub fn lists_errors<S: Schema>(
@@ -37,4 +39,24 @@ pub fn build_the_same<S: Schema>(
     let one = run(schema, tables, script, answers)?.build();
     let other = run(schema, other_tables, other_script, other_answers)?.build();
     Ok(compare(&one, tables, &other, other_tables)?)
+}
+
+/// Runs a script on a fresh builder, finishes it, and walks over all fields of an operation: how many there are. Their places
+/// are listed, if a list is lent.
+pub fn reaches_fields<S: Schema>(
+    schema: &S,
+    tables: &mut Tables<'_>,
+    script: &[Adding<'_>],
+    answers: &mut [Option<BuilderFault>],
+    operation: usize,
+    stack: &mut [WalkStep],
+    marks: &mut [u8],
+    list: Option<&mut [u32]>,
+) -> Result<usize, ScriptFault>
+    ensures { TellsFields (S.Schema.meaning schema.now) tables.old script.now answers.old answers.new operation (λ places. Lent list.entry list.exit (λ old new. new ≡ places ++ drop (length places) old)) result }
+{
+    let document = run(schema, tables, script, answers)?.build();
+    Ok(all_fields(
+        &document, tables, operation, stack, marks, list,
+    )?)
 }

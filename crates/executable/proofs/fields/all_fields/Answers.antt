@@ -1,36 +1,58 @@
-use Rattle.std.proofs.Common.{rules, ◌≡◌, List, ◌++◌, length, drop, MatchResult, IfErr, IfOk, ℕ, ◌+◌, ◌-◌, ◌*◌, ◌<◌, ◌≤◌, ◌/◌, ◌%◌, Bool, true, false, nat_eq, nat_lt, [], ◌∷◌, slice_index_or, slice_set, bit_and, bit_or, Fits, w8, w32, w64, Bor, MutBor}
-use Rattle.schema.specs.Meaning.{Meaning}
-use Rattle.building_rules.specs.Calls.{Call, kept}
-use Rattle.walking.specs.Lent.{Lent, lent_long}
-use Rattle.walking.specs.Answers.{lengths}
-use Rattle.builder.specs.Finished.{Finished}
-use Rattle.executable.specs.Walking.{FieldsAnswer, ListsReached}
+-- The tables that are read are walked; where none are read, a list that is lent stays as it is.
+use Rattle.std.proofs.Common.{◌≡◌, Some, None, Option, refl}
+use Rattle.std.proofs.lemmas.Result.{err_from_is_err_and}
+use Rattle.executable.specs.Walking.{short, refused, listed}
+use Rattle.executable.proofs.Walked.{fields_reached, fields_refused}
 use Rattle.executable.proofs.fields.all_fields.Goals as goal
 
--- src/fields.rt:47:9
+-- something is lent, or nothing
+lent_or_not : {A : Type 0} {P : Type 0} (o : Option A) → (o ≡ None → P) → ((x : A) → o ≡ Some x → P) → P
+lent_or_not None none some = none refl
+lent_or_not (Some x) none some = some x refl
+
 pub returns-in_default-clause-answer : goal.returns-in_default-clause-answer
-returns-in_default-clause-answer g c = ?
+returns-in_default-clause-answer g c = short c.in_default.ensures.stored
 
--- src/fields.rt:47:9
 pub returns-in_default-clause-refused : goal.returns-in_default-clause-refused
-returns-in_default-clause-refused g c = ?
+returns-in_default-clause-refused g c = (refl, refl, lent_or_not c.args.list (λ e. rw e tt) (λ x e. rw e refl))
 
--- src/fields.rt:49:8
-pub returns-in_err-all_fields-clause-answer : goal.returns-in_err-all_fields-clause-answer
-returns-in_err-all_fields-clause-answer g c = ?
+pub returns-in_err-all_fields-in-Some-list-clause-answer : goal.returns-in_err-all_fields-in-Some-list-clause-answer
+returns-in_err-all_fields-in-Some-list-clause-answer g c =
+    let p = err_from_is_err_and c.from_residual.result c.from_residual.ensures.1 in
+    rw (p.1, p.2, c.in-Some-list.is) (refused _ _ c.in-Some.ensures.stored c.in_err-all_fields-in-Some-list.ensures.answer)
 
--- src/fields.rt:49:8
-pub returns-in_err-all_fields-clause-refused : goal.returns-in_err-all_fields-clause-refused
-returns-in_err-all_fields-clause-refused g c = ?
+pub returns-in_err-all_fields-in-Some-list-clause-refused : goal.returns-in_err-all_fields-in-Some-list-clause-refused
+returns-in_err-all_fields-in-Some-list-clause-refused g c =
+    let p = err_from_is_err_and c.from_residual.result c.from_residual.ensures.1 in
+    rw (p.1, c.in-Some-list.is) c.in_err-all_fields-in-Some-list.ensures.refused
 
--- src/fields.rt:49:8
-pub returns-in_err-all_fields-clause-kept : goal.returns-in_err-all_fields-clause-kept
-returns-in_err-all_fields-clause-kept g c = ?
+pub returns-in_err-all_fields-in-Some-list-clause-kept : goal.returns-in_err-all_fields-in-Some-list-clause-kept
+returns-in_err-all_fields-in-Some-list-clause-kept g c m calls v =
+    let p = err_from_is_err_and c.from_residual.result c.from_residual.ensures.1 in
+    rw (p.1, p.2) (fields_refused _ _ (c.in-Some.ensures.kept m calls v) _ _ (λ places. ⊥) _ c.in_err-all_fields-in-Some-list.ensures.answer)
 
--- src/fields.rt:34:1
-pub returns-clause-answer : goal.returns-clause-answer
-returns-clause-answer g c = ?
+pub returns-in_err-all_fields-in-None-clause-answer : goal.returns-in_err-all_fields-in-None-clause-answer
+returns-in_err-all_fields-in-None-clause-answer g c =
+    let p = err_from_is_err_and c.from_residual-in_err-all_fields-in-None.result c.from_residual-in_err-all_fields-in-None.ensures.1 in
+    rw (p.1, p.2, c.in-None.is) (refused _ _ c.in-Some.ensures.stored c.in_err-all_fields-in-None.ensures.answer)
 
--- src/fields.rt:34:1
-pub returns-clause-kept : goal.returns-clause-kept
-returns-clause-kept g c = ?
+pub returns-in_err-all_fields-in-None-clause-kept : goal.returns-in_err-all_fields-in-None-clause-kept
+returns-in_err-all_fields-in-None-clause-kept g c m calls v =
+    let p = err_from_is_err_and c.from_residual-in_err-all_fields-in-None.result c.from_residual-in_err-all_fields-in-None.ensures.1 in
+    rw (p.1, p.2) (fields_refused _ _ (c.in-Some.ensures.kept m calls v) _ _ (λ places. ⊥) _ c.in_err-all_fields-in-None.ensures.answer)
+
+pub returns-in_ok-all_fields-in-Some-list-clause-answer : goal.returns-in_ok-all_fields-in-Some-list-clause-answer
+returns-in_ok-all_fields-in-Some-list-clause-answer g c =
+    rw c.in-Some-list.is (listed _ _ c.in-Some.ensures.stored c.in_ok-all_fields-in-Some-list.ensures.answer)
+
+pub returns-in_ok-all_fields-in-Some-list-clause-kept : goal.returns-in_ok-all_fields-in-Some-list-clause-kept
+returns-in_ok-all_fields-in-Some-list-clause-kept g c m calls v =
+    rw c.in-Some-list.is (fields_reached _ _ (c.in-Some.ensures.kept m calls v) _ _ _ _ c.in_ok-all_fields-in-Some-list.ensures.answer)
+
+pub returns-in_ok-all_fields-in-None-clause-answer : goal.returns-in_ok-all_fields-in-None-clause-answer
+returns-in_ok-all_fields-in-None-clause-answer g c =
+    rw c.in-None.is (listed _ _ c.in-Some.ensures.stored c.in_ok-all_fields-in-None.ensures.answer)
+
+pub returns-in_ok-all_fields-in-None-clause-kept : goal.returns-in_ok-all_fields-in-None-clause-kept
+returns-in_ok-all_fields-in-None-clause-kept g c m calls v =
+    rw c.in-None.is (fields_reached _ _ (c.in-Some.ensures.kept m calls v) _ _ _ _ c.in_ok-all_fields-in-None.ensures.answer)
