@@ -1,5 +1,5 @@
-// Reads schemas, questions to them and documents from the standard input, and prints the answers, the outlines, and what is
-// built of the documents.
+// Reads schemas, questions to them and documents from the standard input, and prints the answers, the outlines, what is
+// built of the documents, and what their operations reach.
 #![tactic(auto)]
 
 use printout::printout;

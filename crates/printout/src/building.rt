@@ -1,34 +1,77 @@
-// Adds the documents of a schema to one builder over it.
+// Adds the documents of a schema to builders over it, finishes what is built, and compares it.
 use crate::printer::Printer;
 use crate::refusals::Refused;
-use crate::sections::DocumentText;
-use builder::{BuilderFault, ExecutableDocumentBuilder};
+use crate::sections::{BuilderText, DocumentText, Section};
+use builder::{BuilderFault, ExecutableDocument, ExecutableDocumentBuilder};
+use executable::compare;
 use owned_tables::{OwnedTables, TableLengths};
 use schema::Schema;
 use std::alloc::AllocError;
 use stored_tables::Tables;
 
+/// A finished document, and the tables in which it stands.
+#[derive(Drop)]
+struct Finished<'s, S> {
+    tables: OwnedTables,
+    document: ExecutableDocument<'s, S>,
+}
+
 impl<'n, 'a> Printer<'n, 'a> {
-    /// Adds each document and whether the builder takes it, and in the end what is built of them, whichever schema it is.
-    pub fn building<S: Schema>(
-        &mut self,
-        schema: &S,
-        documents: &[DocumentText],
-    ) -> Result<(), AllocError> {
-        if documents.is_empty() {
+    /// Adds what is built of the documents, whichever schema it is: by the first builder, and by each other one with
+    /// whether that comes to the same.
+    pub fn building<S: Schema>(&mut self, schema: &S, section: &Section) -> Result<(), AllocError> {
+        if section.has_no_documents() {
             return Ok(());
         }
+        let mut first = self.builder(schema, &section.first)?;
+        for text in section.others.iter() {
+            self.line("Another builder:")?;
+            let mut other = self.builder(schema, text)?;
+            if let (Some(first), Some(other)) = (&mut first, &mut other) {
+                self.comparison(first, other)?;
+            }
+        }
+        Ok(())
+    }
+
+    /// Adds each document and whether a new builder takes it, and in the end what is built of them. There is no finished
+    /// document where the tables of the builder are refused.
+    fn builder<'s, S: Schema>(
+        &mut self,
+        schema: &'s S,
+        text: &BuilderText,
+    ) -> Result<Option<Finished<'s, S>>, AllocError> {
         let mut owned = OwnedTables::new(self.heap, TableLengths::FULL)?;
         let mut tables = owned.lend();
-        let mut builder = match ExecutableDocumentBuilder::new(schema, &mut tables) {
+        let builder = match ExecutableDocumentBuilder::new(schema, &mut tables) {
             Ok(builder) => builder,
-            Err(fault) => return self.line(Refused::Builder(fault)),
+            Err(fault) => {
+                self.line(Refused::Builder(fault))?;
+                return Ok(None);
+            }
         };
+        let document = self.finished(builder, &mut tables, text.complete_documents())?;
+        Ok(Some(Finished {
+            tables: owned,
+            document,
+        }))
+    }
+
+    /// Adds the documents, and in the end what is built of them and what its operations reach.
+    fn finished<'s, S: Schema>(
+        &mut self,
+        mut builder: ExecutableDocumentBuilder<'s, S>,
+        tables: &mut Tables<'_>,
+        documents: &[DocumentText],
+    ) -> Result<ExecutableDocument<'s, S>, AllocError> {
         for (number, text) in (1..=u64::MAX).zip(documents.iter()) {
             self.document(number, text)?;
-            self.adding(&mut builder, &mut tables, text)?;
+            self.adding(&mut builder, tables, text)?;
         }
-        self.built(&builder, &tables)
+        self.built(&builder, tables)?;
+        let document = builder.build();
+        self.walks(&document, tables)?;
+        Ok(document)
     }
 
     /// Adds that the builder takes the document, or why it does not. Of one that is none this stands there already, in
@@ -45,6 +88,25 @@ impl<'n, 'a> Printer<'n, 'a> {
             Ok(()) => self.line("It is added."),
             Err(BuilderFault::Document(_)) => Ok(()),
             Err(fault) => self.line(Refused::Builder(fault)),
+        }
+    }
+
+    /// Adds whether the finished document is the same as the first.
+    fn comparison<S: Schema>(
+        &mut self,
+        first: &mut Finished<'_, S>,
+        other: &mut Finished<'_, S>,
+    ) -> Result<(), AllocError> {
+        let compared = compare(
+            &first.document,
+            &first.tables.lend(),
+            &other.document,
+            &other.tables.lend(),
+        );
+        match compared {
+            Ok(true) => self.line("The finished document is the same as the first one."),
+            Ok(false) => self.line("The finished document is not the same as the first one."),
+            Err(fault) => self.line(Refused::Finished(fault)),
         }
     }
 }

@@ -1,7 +1,7 @@
 // Documents in words: how many rows were read, and the outline of the selections or why they are refused.
 use crate::printer::Printer;
 use crate::refusals::Refused;
-use crate::sections::DocumentText;
+use crate::sections::{BuilderText, DocumentText, Section};
 use crate::shown::Shown;
 use document::{Document, MAX_DEPTH, Needs, SelectionSet};
 use std::alloc::AllocError;
@@ -10,14 +10,24 @@ use text_input::Counted;
 
 impl<'n, 'a> Printer<'n, 'a> {
     /// Adds the documents, and that they are not built, if there are any.
-    pub fn not_built(&mut self, documents: &[DocumentText]) -> Result<(), AllocError> {
-        if documents.is_empty() {
+    pub fn not_built(&mut self, section: &Section) -> Result<(), AllocError> {
+        if section.has_no_documents() {
             return Ok(());
         }
-        for (number, text) in (1..=u64::MAX).zip(documents.iter()) {
-            self.document(number, text)?;
+        self.outlines(&section.first)?;
+        for text in section.others.iter() {
+            self.line("Another builder:")?;
+            self.outlines(text)?;
         }
         self.line("Nothing is built, since the schema is refused.")
+    }
+
+    /// Adds the documents for a builder that there is not.
+    fn outlines(&mut self, text: &BuilderText) -> Result<(), AllocError> {
+        for (number, text) in (1..=u64::MAX).zip(text.complete_documents().iter()) {
+            self.document(number, text)?;
+        }
+        Ok(())
     }
 
     /// Adds a document: how many rows were read, and what they are.

@@ -1,5 +1,5 @@
-// The printout of a text: what was read of each schema, the answer to each question, each document, and what is built of
-// the documents, in words.
+// The printout of a text: what was read of each schema, the answer to each question, each document, what is built of the
+// documents, what their operations reach, and whether two builders come to the same, in words.
 #![tactic(auto)]
 
 mod answers;
@@ -13,6 +13,7 @@ mod refusals;
 mod sections;
 mod shown;
 mod typed;
+mod walks;
 mod whole;
 
 pub use whole::printout;

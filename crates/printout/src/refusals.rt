@@ -1,16 +1,19 @@
-// Why the rows of a schema or of a document, or a call of the builder, are refused, in words and in numbers.
+// Why the rows of a schema or of a document, a call of the builder, or a call on a finished document are refused, in words
+// and in numbers.
 use builder::BuilderFault;
 use document::DocumentFault;
+use executable::ExecutableFault;
 use refusal::Refusal;
 use std::fmt;
 use table_schema::SchemaFault;
 
-/// A refused schema or document, or a document that a builder refuses.
+/// A refused schema or document, a document that a builder refuses, or a finished one.
 #[derive(Clone, Copy)]
 pub enum Refused {
     Schema(SchemaFault),
     Document(DocumentFault),
     Builder(BuilderFault),
+    Finished(ExecutableFault),
 }
 
 impl fmt::Display for Refused {
@@ -26,6 +29,10 @@ impl fmt::Display for Refused {
             }
             Refused::Builder(fault) => {
                 write!(f, "The builder refuses it: {fault}")?;
+                fault.into()
+            }
+            Refused::Finished(fault) => {
+                write!(f, "The finished document is refused: {fault}")?;
                 fault.into()
             }
         };

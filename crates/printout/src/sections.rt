@@ -1,4 +1,4 @@
-// Gathers the lines of a text into sections: each has a schema, the questions to it, and documents.
+// Gathers the lines of a text into sections: each has a schema, the questions to it, and documents for its builders.
 ghost use Rattle.std.specs.Prelude.{◌≡◌};
 
 use document::{DefinitionRow, Document, SelectionRow};
@@ -65,12 +65,36 @@ impl DocumentText {
     }
 }
 
-/// A schema, the questions to it, and documents.
+/// The documents for one builder.
+#[derive(Drop)]
+pub struct BuilderText {
+    documents: Vec<DocumentText>,
+}
+
+impl BuilderText {
+    /// No documents yet.
+    fn new(heap: Global) -> BuilderText {
+        BuilderText {
+            documents: Vec::new(heap),
+        }
+    }
+
+    /// The documents whose rows were all read: only of the last one can some be missing.
+    pub fn complete_documents(&self) -> &[DocumentText] {
+        match self.documents.as_slice().split_last() {
+            Some((last, before)) if !last.is_complete() => before,
+            _ => self.documents.as_slice(),
+        }
+    }
+}
+
+/// A schema, the questions to it, and the documents for a builder over it, and for others.
 #[derive(Drop)]
 pub struct Section {
     pub schema: SchemaChoice<TableText>,
     pub questions: Vec<Question>,
-    documents: Vec<DocumentText>,
+    pub first: BuilderText,
+    pub others: Vec<BuilderText>,
 }
 
 impl Section {
@@ -87,7 +111,8 @@ impl Section {
         Section {
             schema,
             questions: Vec::new(heap),
-            documents: Vec::new(heap),
+            first: BuilderText::new(heap),
+            others: Vec::new(heap),
         }
     }
 
@@ -99,11 +124,16 @@ impl Section {
         }
     }
 
-    /// The documents whose rows were all read: only of the last one can some be missing.
-    pub fn complete_documents(&self) -> &[DocumentText] {
-        match self.documents.as_slice().split_last() {
-            Some((last, before)) if !last.is_complete() => before,
-            _ => self.documents.as_slice(),
+    /// Whether there are no documents for the first builder, and no others.
+    pub fn has_no_documents(&self) -> bool {
+        self.others.as_slice().is_empty() && self.first.complete_documents().is_empty()
+    }
+
+    /// The documents for the builder that came last.
+    fn documents(&mut self) -> &mut Vec<DocumentText> {
+        match self.others.last_mut() {
+            Some(other) => &mut other.documents,
+            None => &mut self.first.documents,
         }
     }
 
@@ -115,7 +145,7 @@ impl Section {
         }
     }
 
-    /// Adds what the line says: a row to the schema or to the last document, a question, or a document.
+    /// Adds what the line says: a row to the schema or to the last document, a question, a document, or a builder.
     fn add(&mut self, heap: Global, line: Line<'_>) -> Result<(), AllocError> {
         match line {
             Line::Type(row) => {
@@ -129,21 +159,22 @@ impl Section {
                 }
             }
             Line::Ask(question) => self.questions.push(question)?,
-            Line::Document(head) => self.documents.push(DocumentText {
+            Line::Document(head) => self.documents().push(DocumentText {
                 head,
                 definitions: Vec::new(heap),
                 rows: Vec::new(heap),
             })?,
             Line::Definition(row) => {
-                if let Some(document) = self.documents.last_mut() {
+                if let Some(document) = self.documents().last_mut() {
                     document.definitions.push(row)?;
                 }
             }
             Line::Row(row) => {
-                if let Some(document) = self.documents.last_mut() {
+                if let Some(document) = self.documents().last_mut() {
                     document.rows.push(row)?;
                 }
             }
+            Line::Other => self.others.push(BuilderText::new(heap))?,
             Line::Schema(_) | Line::Name(_, _) | Line::Blank => {}
         }
         Ok(())

@@ -59,7 +59,7 @@ impl<'n, 'a> Printer<'n, 'a> {
             Ok(schema) => self.accepted(&schema, section),
             Err(MakeFault::Rows(fault)) => {
                 self.refusal(fault, section.questions.len())?;
-                self.not_built(section.complete_documents())
+                self.not_built(section)
             }
             Err(MakeFault::NoMemory) => Err(AllocError),
         }
@@ -68,7 +68,7 @@ impl<'n, 'a> Printer<'n, 'a> {
     /// Adds what a schema answers, and the documents as they are built over it, whichever schema it is.
     fn accepted<S: Schema>(&mut self, schema: &S, section: &Section) -> Result<(), AllocError> {
         self.answers(schema, section.questions.as_slice())?;
-        self.building(schema, section.complete_documents())
+        self.building(schema, section)
     }
 
     /// Adds each question with what the schema answers to it.

@@ -12,6 +12,7 @@ word_of keyword.Ask = codes "ask"
 word_of keyword.Document = codes "doc"
 word_of keyword.Definition = codes "def"
 word_of keyword.Row = codes "row"
+word_of keyword.Other = codes "other"
 
 -- A text gives the keyword that is written so, and no other text gives one.
 abbrev pub ReadsKeyword : {E : Type 0} → List ℕ → Result Keyword E → Type 0

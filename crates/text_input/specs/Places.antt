@@ -41,9 +41,10 @@ after_line keyword.Schema left = left
 after_line keyword.Name left = left
 after_line keyword.Ask left = left
 after_line keyword.Document left = left
+after_line keyword.Other left = left
 
--- A name may be given anywhere. The types come first, then the fields, then questions and documents up to the next
--- schema; a document's definitions come first, then its rows.
+-- A name may be given anywhere. The types come first, then the fields, then questions and documents for one builder or
+-- several up to the next schema; a document's definitions come first, then its rows.
 abbrev pub may_stand : Keyword → Option RowsLeft → Bool
 may_stand keyword.Schema None = true
 may_stand keyword.Schema (Some left) = complete left
@@ -61,3 +62,5 @@ may_stand keyword.Definition None = false
 may_stand keyword.Definition (Some left) = nat_lt 0 left.definitions
 may_stand keyword.Row None = false
 may_stand keyword.Row (Some left) = cond (left.definitions == 0) (nat_lt 0 left.rows) false
+may_stand keyword.Other None = false
+may_stand keyword.Other (Some left) = complete left

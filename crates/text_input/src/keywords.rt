@@ -13,6 +13,7 @@ pub enum Keyword {
     Document,
     Definition,
     Row,
+    Other,
 }
 
 /// The word is no keyword.
@@ -36,6 +37,7 @@ impl FromStr for Keyword {
             "doc" => Ok(Keyword::Document),
             "def" => Ok(Keyword::Definition),
             "row" => Ok(Keyword::Row),
+            "other" => Ok(Keyword::Other),
             _ => Err(NoKeyword),
         }
     }
@@ -57,6 +59,7 @@ impl fmt::Display for Keyword {
             Keyword::Document => "doc",
             Keyword::Definition => "def",
             Keyword::Row => "row",
+            Keyword::Other => "other",
         })
     }
 }
@@ -83,6 +86,7 @@ impl Keyword {
                 "def KIND OPTYPE NAME CONDITION VARIABLES DIRECTIVES LOCATION NAMELOC CONDLOC FIRST END",
             Keyword::Row =>
                 "row KIND NAME ALIAS CONDITION ARGUMENTS DIRECTIVES LOCATION NAMELOC CONDLOC END",
+            Keyword::Other => "other",
         }
     }
 }

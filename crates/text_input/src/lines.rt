@@ -27,6 +27,8 @@ pub enum Line<'a> {
     Definition(DefinitionRow),
     /// A selection of the document.
     Row(SelectionRow),
+    /// The documents from here on are for another builder.
+    Other,
 }
 
 /// The open schema, which has no rows, or a table under the meta-fields with what is known of it.
@@ -64,6 +66,7 @@ pub fn read_line<'a>(keyword: Keyword, words: &mut Words<'_, 'a>) -> Result<Line
         Keyword::Document => Ok(Line::Document(read_document(words)?)),
         Keyword::Definition => Ok(Line::Definition(read_definition(words)?)),
         Keyword::Row => Ok(Line::Row(read_row(words)?)),
+        Keyword::Other => Ok(Line::Other),
     }
 }
 

@@ -24,7 +24,7 @@ pub enum Misplaced {
 }
 
 /// Refuses a line that may not stand where these rows are left, or before any schema. First come the types, then the
-/// fields, then questions and documents up to the next schema; a document's definitions come first, then its rows. A
+/// fields, then questions and documents for one builder or several up to the next schema; a document's definitions come first, then its rows. A
 /// name may be given anywhere.
 pub fn check_place(left: Option<RowsLeft>, keyword: Keyword) -> Result<(), Misplaced>
     ensures { is_ok result ≡ may_stand keyword left }
@@ -46,9 +46,10 @@ pub fn check_place(left: Option<RowsLeft>, keyword: Keyword) -> Result<(), Mispl
         Keyword::Type | Keyword::Field | Keyword::Definition | Keyword::Row => Err(
             Misplaced::TooManyRows(keyword),
         ),
-        Keyword::Schema | Keyword::Ask | Keyword::Document if left.is_complete() => Ok(()),
-        Keyword::Schema | Keyword::Ask | Keyword::Document => Err(Misplaced::RowsMissing(
-            keyword, left,
-        )),
+        Keyword::Schema | Keyword::Ask | Keyword::Document | Keyword::Other if left.is_complete() =>
+            Ok(()),
+        Keyword::Schema | Keyword::Ask | Keyword::Document | Keyword::Other => Err(
+            Misplaced::RowsMissing(keyword, left),
+        ),
     }
 }

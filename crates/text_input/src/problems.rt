@@ -8,7 +8,7 @@ use thiserror::Error;
 #[derive(Clone, Copy, Debug, Error)]
 pub enum Problem<'a> {
     /// The first word is no keyword.
-    #[error("'{0}' is no keyword: a line begins with schema, type, field, name, ask, doc, def or row")]
+    #[error("'{0}' is no keyword: a line begins with schema, type, field, name, ask, doc, def, row or other")]
     UnknownKeyword(&'a str),
     /// Words are missing from a line of this form.
     #[error("too few words: the line is '{0}'")]

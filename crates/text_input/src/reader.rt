@@ -86,6 +86,7 @@ impl<'a> LineReader<'a> {
             | Line::Definition(_)
             | Line::Row(_)
             | Line::Ask(_)
+            | Line::Other
             | Line::Blank => {}
         }
         Ok(())

@@ -44,7 +44,8 @@ impl RowsLeft {
                 rows: self.rows.saturating_sub(1),
                 ..self
             },
-            Keyword::Schema | Keyword::Name | Keyword::Ask | Keyword::Document => self,
+            Keyword::Schema | Keyword::Name | Keyword::Ask | Keyword::Document | Keyword::Other =>
+                self,
         }
     }
 }
