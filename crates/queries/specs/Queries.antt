@@ -24,6 +24,7 @@ spread_twice =
           ∷ stored_field unit_place unit_type (field unit_field 37 3)
           ∷ stored_spread (spread f_name 42 4)
           ∷ [];
+      walks = (2 ∷ []) ∷ [];
     }
 
 -- { unit { id } }
@@ -39,6 +40,7 @@ beneath_an_enum =
       operations = [];
       fragments = [];
       selections = [];
+      walks = [] ∷ [];
     }
 
 -- { meter { gas id } }
@@ -57,6 +59,7 @@ unknown_field =
           stored_field meter_place meter_type (field meter_field 3 2)
           ∷ stored_field id_place id_type (field id_field 15 2)
           ∷ [];
+      walks = (0 ∷ 1 ∷ []) ∷ [];
     }
 
 -- { unit } { unit } { unit }
@@ -72,6 +75,7 @@ anonymous_thrice =
       operations = [];
       fragments = [];
       selections = stored_field unit_place unit_type (field unit_field 3 1) ∷ [];
+      walks = (0 ∷ []) ∷ [];
     }
 
 -- { meter { ... on Query { unit } } }
@@ -91,6 +95,7 @@ another_type =
           ∷ stored_inline query_type (inline query_type 11 18 3)
           ∷ stored_field unit_place unit_type (field unit_field 26 3)
           ∷ [];
+      walks = (0 ∷ 2 ∷ []) ∷ [];
     }
 
 -- mutation A { id } query A { unit }
@@ -106,6 +111,7 @@ no_root =
       operations = stored_in query_type (named operation.Query a_name 19 25 0 1) ∷ [];
       fragments = [];
       selections = stored_field unit_place unit_type (field unit_field 29 1) ∷ [];
+      walks = (0 ∷ []) ∷ [];
     }
 
 -- { unit } query A { unit }
@@ -124,6 +130,7 @@ beside_a_named_one =
           stored_field unit_place unit_type (field unit_field 3 1)
           ∷ stored_field unit_place unit_type (field unit_field 20 2)
           ∷ [];
+      walks = (0 ∷ []) ∷ (1 ∷ []) ∷ [];
     }
 
 -- fragment F on Gas { id } fragment F on Meter { id }
@@ -139,6 +146,7 @@ unknown_condition =
       operations = [];
       fragments = stored_in meter_type (fragment f_name meter_type 26 35 40 0 1) ∷ [];
       selections = stored_field id_place id_type (field id_field 48 1) ∷ [];
+      walks = [];
     }
 
 abbrev pub queries : List Query

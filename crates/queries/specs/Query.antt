@@ -1,5 +1,5 @@
 -- A query as it is handed in, and what it comes to; and that it stands so by the rules of building.
-use Rattle.std.specs.Prelude.{◌≡◌, ℕ, Bool, List, None, Option}
+use Rattle.std.specs.Prelude.{◌≡◌, ℕ, Bool, List, [], ◌∷◌, None, Some, Option}
 use Rattle.document.specs.declared.rows.DefinitionRow.{DefinitionRow}
 use Rattle.document.specs.declared.rows.SelectionRow.{SelectionRow}
 use Rattle.document.specs.Sets.{no_row, no_definition_row}
@@ -14,10 +14,14 @@ use Rattle.selection_rules.specs.Errors.{Path, Error}
 use Rattle.building_rules.specs.Definitions.{Accepted, accepted_from, errors_in, kept_in}
 use Rattle.building_rules.specs.Calls.{document_in}
 use Rattle.stored_tables.specs.declared.definition.StoredDefinition.{StoredDefinition}
+use Rattle.stored_tables.specs.declared.stored.StoredDocument.{StoredDocument}
 use Rattle.stored_tables.specs.Layout.{operations_of, fragments_of, anonymous_of, rows_of}
+use Rattle.walking.specs.declared.turn.Scope.TheVariants.{Deep}
+use Rattle.walking.specs.Walk.{Listing}
 
 -- the two tables that are handed in, and whether strict; and what they come to: the errors, in order; the anonymous
--- operation that is stored, the named ones, the fragments and the selections
+-- operation that is stored, the named ones, the fragments and the selections; and, of each operation, the anonymous one before
+-- the others, the places of the fields that a walk comes upon
 pub record Query : Type 0 where
   pub definitions : List DefinitionRow
   pub rows : List SelectionRow
@@ -27,10 +31,33 @@ pub record Query : Type 0 where
   pub operations : List StoredDefinition
   pub fragments : List StoredDefinition
   pub selections : List StoredRow
+  pub walks : List (List ℕ)
 
 -- its definitions, as they are accepted
 abbrev pub accepted_of : Query → List Accepted
 accepted_of q = accepted_from q.strict (document_in q.definitions q.rows)
+
+-- tables that hold what the query comes to
+pub record Holds (q : Query) (d : StoredDocument) : Type 0 where
+  pub anonymous : d.anonymous ≡ q.anonymous
+  pub operations : d.operations.now ≡ q.operations
+  pub fragments : d.fragments.now ≡ q.fragments
+  pub selections : d.rows.now ≡ q.selections
+
+-- the operations that are stored, the anonymous one before the others
+abbrev pub walked_from : Option StoredDefinition → List StoredDefinition → List StoredDefinition
+walked_from None named = named
+walked_from (Some s) named = s ∷ named
+
+-- each operation is walked from, and there the walk comes upon the fields at its places
+abbrev pub EachWalked : StoredDocument → List StoredDefinition → List (List ℕ) → Type 0
+EachWalked d [] [] = Unit {0}
+EachWalked d [] (places ∷ others) = ⊥
+EachWalked d (s ∷ ss) [] = ⊥
+EachWalked d (s ∷ ss) (places ∷ others) = Listing d Deep s places × EachWalked d ss others
+
+abbrev pub Walked : Query → Type 0
+Walked q = (d : StoredDocument) → Holds q d → EachWalked d (walked_from q.anonymous q.operations) q.walks
 
 -- over this schema the query comes to what it tells
 pub record Stands (m : Meaning) (q : Query) : Type 0 where
@@ -40,6 +67,7 @@ pub record Stands (m : Meaning) (q : Query) : Type 0 where
   pub operations : operations_of 0 (kept_in m (accepted_of q)) ≡ q.operations
   pub fragments : fragments_of 0 (kept_in m (accepted_of q)) ≡ q.fragments
   pub selections : rows_of 0 (kept_in m (accepted_of q)) ≡ q.selections
+  pub walks : Walked q
 
 -- Rows, handed in or stored: of a definition the names, the locations, and the range of its selections; of a selection the
 -- names, the locations, and the end of what stands beneath it

@@ -1,4 +1,4 @@
-// Eight queries to a schema of meters, and what the rules of building make of each.
+// Eight queries to a schema of meters, and what the rules of building and of walking make of each.
 // Each function does nothing; its promise is a theorem on them.
 #![tactic(auto)]
 
@@ -11,7 +11,7 @@ pub fn the_meters_are_a_schema()
 {}
 
 /// Each of the eight queries is a document, lists the errors and comes to the stored definitions and selections that stand
-/// beside it.
+/// beside it; and a walk from each operation comes upon the fields at the places beside it.
 pub fn the_queries_stand()
     ensures { AllStand }
 {}
