@@ -1,5 +1,5 @@
 // What is lent to a walk over a finished document, owned.
-ghost use Rattle.std.specs.Prelude.{IfOk, length, ◌≡◌, ◌×◌};
+ghost use Rattle.std.specs.Prelude.{◌≡◌, length, IfOk};
 
 use builder::{MAX_FRAGMENTS, MAX_STORED_ROWS};
 use std::alloc::{AllocError, Global};
