@@ -20,6 +20,7 @@ use Rattle.walking.specs.Answers.{FieldsOf}
 use Rattle.builder.specs.Finished.{IsFinished}
 use Rattle.executable.specs.Walking.{walk_fault, IsNumbered, anonymous, named, Reached, ListsReached}
 
+-- there is a latest of a list that is not empty
 never_none : (s : StoredDefinition) (ds : List StoredDefinition) → latest (Some s) ds ≡ None → ⊥
 never_none s [] is = grind (arith, is)
 never_none s (d ∷ ds) is = never_none d ds is
@@ -51,6 +52,7 @@ module _ (ks : List Kept) (x : IndexedDocument) (v : IsFinished ks x) where
       let at = subst (λ (d : StoredDefinition). EntryOf named_role ks d n) is ((table_places ks x.stored v.holds).operations i low) in
       record { number = n; numbered = named i (omega (arith, low, long)); reaches = tables_reach ks x.stored v.holds named_role s n at }
 
+  -- where no operation is stored, none is kept at the place
   missing : (operation number : ℕ) → operation_at x.stored operation ≡ None → IsNumbered ks operation number → ⊥
   missing _ _ none (anonymous n low role) =
       let at = place_of anonymous_role ks n low role in

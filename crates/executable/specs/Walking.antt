@@ -1,5 +1,5 @@
 -- Walking over the fields of an operation: which refusal comes, and what is counted and listed.
-use Rattle.std.specs.Prelude.{◌≡◌, ℕ, suc, ◌<◌, true, ◌↔◌, List, length, Ok, Err, Result, slice_index}
+use Rattle.std.specs.Prelude.{Bool, ◌≡◌, ℕ, suc, ◌<◌, true, ◌↔◌, List, length, Ok, Err, Result, slice_index}
 use Rattle.building_rules.specs.Definitions.{Kept}
 use Rattle.building_rules.specs.Rules.{anonymous_role, named_role}
 use Rattle.stored_tables.specs.declared.tables.Tables.{Tables}

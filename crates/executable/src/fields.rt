@@ -30,7 +30,8 @@ impl From<WalkFault> for ExecutableFault {
 
 /// How many fields an operation reaches: at place 0 the anonymous one, at n the nth named one. The places of the fields among
 /// the stored rows are listed, if a list is lent, a field before those beneath it. A fragment is entered at its first spread
-/// only, and one that is not stored is passed over.
+/// only, and one that is not stored is passed over. A refusal changes nothing. Else the marks of the fragments are 0, and what
+/// is lent beyond what the fragments need is as it was.
 pub fn all_fields<S: Schema>(
     document: &ExecutableDocument<'_, S>,
     tables: &Tables<'_>,
@@ -48,6 +49,7 @@ pub fn all_fields<S: Schema>(
     let Some(stored) = document.stored(tables) else {
         return Err(ExecutableFault::TableTooShort);
     };
+    // An arm for each: in each it is known whether there is a list, and so what has become of it.
     match list {
         Some(list) => Ok(walking::all_fields(&stored, operation, stack, marks, Some(list))?),
         None => Ok(walking::all_fields(&stored, operation, stack, marks, None)?),

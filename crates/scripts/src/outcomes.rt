@@ -1,7 +1,6 @@
 // What scripts come to: whether errors are listed, and whether two scripts build the same.
 ghost use Rattle.std.specs.Prelude.{◌≡◌, [], ◌++◌, length, drop};
 ghost use Rattle.scripts.specs.Script.{lengths_of, answers_from};
-ghost use Rattle.walking.specs.Lent.{Lent};
 ghost use Rattle.scripts.specs.Outcomes.{TellsErrors, TellsSame, TellsFields};
 
 use crate::running::run;
@@ -41,8 +40,8 @@ pub fn build_the_same<S: Schema>(
     Ok(compare(&one, tables, &other, other_tables)?)
 }
 
-/// Runs a script on a fresh builder, finishes it, and walks over all fields of an operation: how many there are. Their places
-/// are listed, if a list is lent.
+/// Runs a script on a fresh builder, finishes it, and walks over all fields of an operation: how many there are, and their
+/// places in the list.
 pub fn reaches_fields<S: Schema>(
     schema: &S,
     tables: &mut Tables<'_>,
@@ -51,12 +50,10 @@ pub fn reaches_fields<S: Schema>(
     operation: usize,
     stack: &mut [WalkStep],
     marks: &mut [u8],
-    list: Option<&mut [u32]>,
+    list: &mut [u32],
 ) -> Result<usize, ScriptFault>
-    ensures { TellsFields (S.Schema.meaning schema.now) tables.old script.now answers.old answers.new operation (λ places. Lent list.entry list.exit (λ old new. new ≡ places ++ drop (length places) old)) result }
+    ensures { TellsFields (S.Schema.meaning schema.now) tables.old script.now answers.old answers.new operation (λ places. list.new ≡ places ++ drop (length places) list.old) result }
 {
     let document = run(schema, tables, script, answers)?.build();
-    Ok(all_fields(
-        &document, tables, operation, stack, marks, list,
-    )?)
+    Ok(all_fields(&document, tables, operation, stack, marks, Some(list))?)
 }
