@@ -83,10 +83,11 @@ fn print_sides<S: Schema>(rt: &HostRuntime, schema: &S, sides: &[Side]) -> io::R
             finished.push(side)?;
         }
     }
-    match finished.as_mut_slice() {
-        [a, b] => print_equal(rt, a, b),
-        _ => Ok(()),
+    let (second, first) = (finished.pop(), finished.pop());
+    if let (Some(mut first), Some(mut second)) = (first, second) {
+        print_equal(rt, &mut first, &mut second)?;
     }
+    Ok(())
 }
 
 /// Prints what comes of a case: the refusal of its schema, or what each side builds.
