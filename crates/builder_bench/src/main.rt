@@ -1,15 +1,17 @@
-// Measures what adding a document takes, at its limit of 4,096 rows, in five shapes, over a table schema of 1,024 types
-// and 4,080 fields under the meta-fields.
+// Measures what adding a document, walking over it and comparing it takes, at the limit of 4,096 rows, in five shapes,
+// over a table schema of 1,024 types and 4,080 fields under the meta-fields.
 //
 // A whole call on a fresh builder is measured, and apart from it what is part of it: making the builder, which empties
 // both indexes; the call with an empty document, which checks empty tables and indexes; and checking the document and
-// counting what it needs. What a later call would have to check, the stored tables, is measured too. The nanoseconds go to
-// standard error, the sums of the answers to standard output.
+// counting what it needs. Then the document is finished, and the calls on it are measured. The nanoseconds go to standard
+// error, the sums of the answers to standard output.
 #![tactic(auto)]
 
+mod finished;
 mod shapes;
 mod world;
 
+use crate::finished::measure_finished;
 use crate::shapes::{Shape, all_shapes};
 use crate::world::{World, make_world};
 use builder::ExecutableDocumentBuilder;
@@ -83,23 +85,6 @@ fn add_to_fresh(world: &World, owned: &mut OwnedTables, document: &Document<'_>)
     }
 }
 
-// Builds the document once, and measures the check of what is stored then.
-fn measure_stored(
-    rt: &HostRuntime,
-    world: &World,
-    owned: &mut OwnedTables,
-    document: &Document<'_>,
-) -> anyhow::Result<u64> {
-    let mut tables = owned.lend();
-    let mut builder = ExecutableDocumentBuilder::new(&world.schema, &mut tables)?;
-    builder.add_ast_document(&mut tables, document, true)?;
-    let stored = builder.stored(&tables);
-    let sum = measure(rt, "  check of what is stored", ROUNDS, |sum| {
-        sum_with(sum, usize::from(stored.check().is_ok()))
-    })?;
-    Ok(sum)
-}
-
 fn measure_shape(
     rt: &HostRuntime,
     world: &World,
@@ -119,11 +104,11 @@ fn measure_shape(
     let needs = measure(rt, "  needs, and the check before it", ROUNDS, |sum| {
         sum_with(sum, document.needs().map_or(0, |needs| needs.path_keys))
     })?;
-    let check = measure_stored(rt, world, owned, &document)?;
+    let [checks, walks, comparisons] = measure_finished(rt, world, owned, &document)?;
     let rows = answer / 8192;
     let errors = answer % 8192;
     println!(rt;
-        "{what}: rows {rows}, errors {errors}, adding {whole}, needs {needs}, checks {check}"
+        "{what}: rows {rows}, errors {errors}, adding {whole}, needs {needs}, checks {checks}, walks {walks}, comparisons {comparisons}"
     )?;
     Ok(())
 }
