@@ -1,8 +1,8 @@
 // The typed lines, and how each is read from its words after the keyword.
-use crate::keywords::Keyword;
 use crate::problems::Problem;
 use crate::word_list::Words;
 use document::{DefinitionRow, SelectionRow};
+use line_order::{DocumentHead, Keyword, SchemaChoice, TableHead};
 use schema::{Name, OperationType, Question};
 use table_schema::{FieldRow, RootTypes, TypeRow};
 
@@ -29,30 +29,6 @@ pub enum Line<'a> {
     Row(SelectionRow),
     /// The documents from here on are for another builder.
     Other,
-}
-
-/// The open schema, which has no rows, or a table under the meta-fields with what is known of it.
-// Kept: the open schema is a schema of its own, and `None` would read as a missing one.
-#[derive(Clone, Copy, Drop)]
-pub enum SchemaChoice<T> {
-    Open,
-    Table(T),
-}
-
-/// How many rows of a table follow, and its root types.
-#[derive(Clone, Copy, PartialEq, Eq, Default, Debug)]
-pub struct TableHead {
-    pub types: u32,
-    pub fields: u32,
-    pub roots: RootTypes,
-}
-
-/// Whether a document is read strictly, and how many rows of its two tables follow.
-#[derive(Clone, Copy)]
-pub struct DocumentHead {
-    pub strict: bool,
-    pub definitions: u32,
-    pub rows: u32,
 }
 
 /// The line with this keyword.

@@ -1,5 +1,5 @@
 // What can be wrong with a text, in words that help to put it right.
-use crate::places::Misplaced;
+use line_order::Misplaced;
 use schema::Name;
 use std::alloc::AllocError;
 use thiserror::Error;

@@ -1,11 +1,9 @@
 // Reads lines one after the other: it keeps the names that were given, and sees that each line stands in its place.
-use crate::keywords::Keyword;
 use crate::lines::{Line, read_line};
 use crate::name_table::NameTable;
-use crate::places::{Misplaced, check_place};
 use crate::problems::{Problem, ReadFault, TextError};
-use crate::rows_left::RowsLeft;
 use crate::word_list::Words;
+use line_order::{Keyword, Misplaced, RowsLeft, check_place};
 use std::alloc::{AllocError, Global};
 
 /// A reader of a text's lines.

@@ -1,9 +1,9 @@
 // How many rows of a schema, or of a document, are still to come.
 ghost use Rattle.std.specs.Prelude.{◌≡◌};
-ghost use Rattle.text_input.specs.Places.{complete, after_line};
+ghost use Rattle.line_order.specs.Places.{complete, after_line};
 
 use crate::keywords::Keyword;
-use crate::lines::{DocumentHead, SchemaChoice, TableHead};
+use crate::heads::{DocumentHead, SchemaChoice, TableHead};
 use std::fmt;
 
 /// The rows that are still to come: a schema's types and fields, or a document's definitions and rows.
@@ -52,7 +52,7 @@ impl RowsLeft {
 
 impl From<SchemaChoice<TableHead>> for RowsLeft {
     ghost use Rattle.std.specs.Prelude.{◌≡◌};
-    ghost use Rattle.text_input.specs.Places.{rows_of_schema};
+    ghost use Rattle.line_order.specs.Places.{rows_of_schema};
 
     ghost from_gives = { λ head left. left ≡ rows_of_schema head };
 
@@ -70,7 +70,7 @@ impl From<SchemaChoice<TableHead>> for RowsLeft {
 
 impl From<DocumentHead> for RowsLeft {
     ghost use Rattle.std.specs.Prelude.{◌≡◌};
-    ghost use Rattle.text_input.specs.Places.{rows_of_document};
+    ghost use Rattle.line_order.specs.Places.{rows_of_document};
 
     ghost from_gives = { λ head left. left ≡ rows_of_document head };
 

@@ -1,6 +1,6 @@
 // Where a line may stand, and what is wrong where it may not.
 ghost use Rattle.std.specs.Prelude.{◌≡◌, is_ok};
-ghost use Rattle.text_input.specs.Places.{may_stand};
+ghost use Rattle.line_order.specs.Places.{may_stand};
 
 use crate::keywords::Keyword;
 use crate::rows_left::RowsLeft;

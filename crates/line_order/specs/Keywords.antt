@@ -1,7 +1,7 @@
 -- How each keyword is written. Assumes nothing.
 use Rattle.std.specs.Prelude.{◌≡◌, ◌↔◌, ℕ, List, codes, Ok, Result}
-use Rattle.text_input.specs.declared.keywords.Keyword.{Keyword}
-use Rattle.text_input.specs.declared.keywords.Keyword.TheVariants as keyword
+use Rattle.line_order.specs.declared.keywords.Keyword.{Keyword}
+use Rattle.line_order.specs.declared.keywords.Keyword.TheVariants as keyword
 
 abbrev pub word_of : Keyword → List ℕ
 word_of keyword.Schema = codes "schema"

@@ -21,7 +21,7 @@ pub enum Keyword {
 pub struct NoKeyword;
 
 impl FromStr for Keyword {
-    ghost use Rattle.text_input.specs.Keywords.{ReadsKeyword};
+    ghost use Rattle.line_order.specs.Keywords.{ReadsKeyword};
 
     type Err = NoKeyword;
 
@@ -45,7 +45,7 @@ impl FromStr for Keyword {
 
 impl fmt::Display for Keyword {
     ghost use Rattle.std.specs.Prelude.{Some};
-    ghost use Rattle.text_input.specs.Keywords.{word_of};
+    ghost use Rattle.line_order.specs.Keywords.{word_of};
 
     ghost output = { λ k. Some (word_of k) };
 

@@ -1,12 +1,12 @@
 -- Where a line may stand among the rows of a schema and of its documents. Assumes nothing.
 use Rattle.std.specs.Prelude.{◌-◌, Bool, true, false, cond, Some, None, Option, ◌==◌, nat_lt}
-use Rattle.text_input.specs.declared.keywords.Keyword.{Keyword}
-use Rattle.text_input.specs.declared.keywords.Keyword.TheVariants as keyword
-use Rattle.text_input.specs.declared.lines.DocumentHead.{DocumentHead}
-use Rattle.text_input.specs.declared.lines.SchemaChoice.{SchemaChoice}
-use Rattle.text_input.specs.declared.lines.SchemaChoice.TheVariants as schema
-use Rattle.text_input.specs.declared.lines.TableHead.{TableHead}
-use Rattle.text_input.specs.declared.rows_left.RowsLeft.{RowsLeft}
+use Rattle.line_order.specs.declared.keywords.Keyword.{Keyword}
+use Rattle.line_order.specs.declared.keywords.Keyword.TheVariants as keyword
+use Rattle.line_order.specs.declared.heads.DocumentHead.{DocumentHead}
+use Rattle.line_order.specs.declared.heads.SchemaChoice.{SchemaChoice}
+use Rattle.line_order.specs.declared.heads.SchemaChoice.TheVariants as schema
+use Rattle.line_order.specs.declared.heads.TableHead.{TableHead}
+use Rattle.line_order.specs.declared.rows_left.RowsLeft.{RowsLeft}
 
 -- no row is still to come
 abbrev pub complete : RowsLeft → Bool
