@@ -2,8 +2,8 @@
 ghost use Rattle.std.specs.Prelude.{◌≡◌};
 ghost use Rattle.line_order.specs.Places.{complete, after_line};
 
-use crate::keywords::Keyword;
 use crate::heads::{DocumentHead, SchemaChoice, TableHead};
+use crate::keywords::Keyword;
 use std::fmt;
 
 /// The rows that are still to come: a schema's types and fields, or a document's definitions and rows.
