@@ -54,12 +54,16 @@ answer_to l m calls a =
 abbrev pub call_of : Adding → Option BuilderFault → Call
 call_of a answer = called a.document.definitions.now a.document.rows.now a.strict (is_some answer)
 
--- the answers to a script after these calls, and the calls after it
-abbrev pub answers_from : Lengths → Meaning → List Call → List Adding → List (Option BuilderFault)
-answers_from l m calls [] = []
-answers_from l m calls (a ∷ script) =
-    answer_to l m calls a ∷ answers_from l m (calls ++ call_of a (answer_to l m calls a) ∷ []) script
+-- the script with its answers, after these calls; and the calls then
+abbrev pub answered_from : Lengths → Meaning → List Call → List Adding → List Adding
+answered_from l m calls [] = []
+answered_from l m calls (a ∷ script) =
+    record a { answer = answer_to l m calls a } ∷ answered_from l m (calls ++ call_of a (answer_to l m calls a) ∷ []) script
 
 abbrev pub calls_from : Lengths → Meaning → List Call → List Adding → List Call
 calls_from l m calls [] = calls
 calls_from l m calls (a ∷ script) = calls_from l m (calls ++ call_of a (answer_to l m calls a) ∷ []) script
+
+-- the calls of a script on a fresh builder, with their answers
+abbrev pub calls_of : Meaning → Tables → List Adding → List Call
+calls_of m t script = calls_from (lengths_of t) m [] script
