@@ -1,21 +1,13 @@
 // Rows that are no schema: every fault at the first row where it can stand, which of two faults is told, and the sizes.
 use crate::rows::{
-    ENUM, FINE, INPUT_OBJECT, INTERFACE, KIND_UNKNOWN, OBJECT, OVER_LIMIT, OWNER_UNFIT, REPEATED,
-    SCALAR, UNION, UNNAMED, come_to, field_rows, many_fields, many_types, refused, rootless,
-    type_rows,
+    Case, ENUM, FINE, INPUT_OBJECT, INTERFACE, KIND_UNKNOWN, OBJECT, OVER_LIMIT, OWNER_UNFIT,
+    REPEATED, SCALAR, UNION, UNNAMED, come_to, field_rows, many_fields, many_types, refused,
+    rootless, type_rows,
 };
-use refusal::{Reason, Refusal};
+use refusal::Refusal;
 use std::process::Abort;
 use std::test::Fail;
 use table_schema::{RowFault, SchemaFault};
-
-// Types by name and kind, fields by owner, name and inner type, and the refusal by reason and row.
-type Case = (
-    &'static [(u32, u32)],
-    &'static [(u32, u32, u32)],
-    Option<Reason>,
-    u32,
-);
 
 fn each(rt: &(impl Abort + AllocGlobal), cases: &[Case]) -> Result<(), Fail> {
     for &(types, fields, reason, row) in cases {

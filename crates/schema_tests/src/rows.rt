@@ -33,6 +33,14 @@ pub const OWNER_UNFIT: Option<Reason> = Some(Reason::OwnerUnfit);
 
 pub const SLOTS_UNFIT: Option<Reason> = Some(Reason::IndexUnfit);
 
+// Types by name and kind, fields by owner, name and inner type, and the refusal by reason and row.
+pub type Case = (
+    &'static [(u32, u32)],
+    &'static [(u32, u32, u32)],
+    Option<Reason>,
+    u32,
+);
+
 // Types by name and kind.
 pub fn type_rows(heap: Global, types: &[(u32, u32)]) -> Result<Vec<TypeRow>, AllocError> {
     types
@@ -112,7 +120,8 @@ fn all_empty(slots: &[u32]) -> bool {
     slots.iter().all(|&slot| slot == 0)
 }
 
-// The rows come to this verdict in slots that are lent, which a refusal leaves empty, and as a schema of their own.
+// The rows come to this verdict in slots that are lent, which a refusal leaves empty, and as a schema of their own; and
+// where no slots are lent, which is told only if nothing else is wrong.
 pub fn come_to(
     rt: &(impl Abort + AllocGlobal),
     rows: &SchemaRows<'_>,
@@ -132,5 +141,7 @@ pub fn come_to(
     if expected.is_some() {
         assert!(rt; all_empty(type_slots.as_slice()) && all_empty(field_slots.as_slice()));
     }
+    let slotless = verdict(rows, &mut [], &mut []);
+    assert_eq!(rt; slotless, expected.or(refused(SLOTS_UNFIT, 0)));
     Ok(())
 }

@@ -1,11 +1,14 @@
-// The slots that are lent for indexing rows: of another size or not empty they are refused, and stay as they were.
+// The slots that are lent for indexing rows: of another size or not empty they are refused where the rows are in order,
+// and stay as they were.
 use crate::rows::{
-    FINE, OVER_LIMIT, SLOTS_UNFIT, many_fields, many_types, refused, rootless, verdict,
+    Case, FINE, KIND_UNKNOWN, OBJECT, OVER_LIMIT, OWNER_UNFIT, REPEATED, SCALAR, SLOTS_UNFIT,
+    UNNAMED, field_rows, many_fields, many_types, refused, rootless, type_rows, verdict,
 };
 use refusal::Refusal;
 use std::alloc::{AllocError, Global};
 use std::process::Abort;
 use std::test::Fail;
+use table_schema::SchemaRows;
 
 // The slots of an index: how many, and the place of the one that is in use, if one is.
 #[derive(Clone, Copy, Debug)]
@@ -37,21 +40,19 @@ fn used_at(size: usize, place: usize) -> LentSlots {
     }
 }
 
-// So many types, with no field, are refused so in these slots for types and for fields, and the slots stay.
+// The rows are refused so in these slots for types and for fields, and the slots stay.
 fn unfit(
     rt: &(impl Abort + AllocGlobal),
     lent: (LentSlots, LentSlots),
-    count: u32,
+    rows: &SchemaRows<'_>,
     expected: Option<Refusal>,
 ) -> Result<(), Fail> {
-    let types = many_types(rt.alloc(), count)?;
     let mut type_slots = lent.0.made(rt.alloc())?;
     let mut field_slots = lent.1.made(rt.alloc())?;
     let types_before = type_slots.as_slice().to_vec(rt.alloc())?;
     let fields_before = field_slots.as_slice().to_vec(rt.alloc())?;
-    let rows = rootless(types.as_slice(), &[]);
     assert_eq!(rt;
-        verdict(&rows, type_slots.as_mut_slice(), field_slots.as_mut_slice()),
+        verdict(rows, type_slots.as_mut_slice(), field_slots.as_mut_slice()),
         expected,
         "{:?}",
         lent
@@ -60,10 +61,9 @@ fn unfit(
     Ok(())
 }
 
-#[test]
-fn slots_unfit(rt: HostRuntime) -> Result<(), Fail> {
-    let cases = [
-        // the slots for types, and for fields
+// Slots for types and for fields that no rows can be indexed in.
+fn unfit_slots() -> [(LentSlots, LentSlots); 13] {
+    [
         (empty(2047), empty(8192)),
         (empty(2049), empty(8192)),
         (empty(0), empty(8192)),
@@ -77,11 +77,64 @@ fn slots_unfit(rt: HostRuntime) -> Result<(), Fail> {
         (empty(2048), used_at(8192, 0)),
         (empty(2048), used_at(8192, 8191)),
         (empty(8192), empty(2048)),
-    ];
-    for lent in cases {
-        unfit(&rt, lent, 3, refused(SLOTS_UNFIT, 0))?;
+    ]
+}
+
+#[test]
+fn slots_unfit(rt: HostRuntime) -> Result<(), Fail> {
+    let few = many_types(rt.alloc(), 3)?;
+    let many = many_types(rt.alloc(), 1025)?;
+    let fields = field_rows(rt.alloc(), &[(1, 1, 1), (1, 2, 1), (2, 1, 1)])?;
+    let fitting = rootless(few.as_slice(), fields.as_slice());
+    let over_limit = rootless(many.as_slice(), fields.as_slice());
+    for lent in unfit_slots() {
+        unfit(&rt, lent, &fitting, refused(SLOTS_UNFIT, 0))?;
         // sizes of the rows before the slots
-        unfit(&rt, lent, 1025, refused(OVER_LIMIT, 0))?;
+        unfit(&rt, lent, &over_limit, refused(OVER_LIMIT, 0))?;
+    }
+    Ok(())
+}
+
+const FAULTY: [Case; 9] = [
+    // a type, of a schema without fields and of one with a field that is in order
+    (&[(0, OBJECT)], &[], UNNAMED, 1),
+    (&[(1, OBJECT), (2, 7)], &[(1, 1, 1)], KIND_UNKNOWN, 2),
+    (
+        &[(1, OBJECT), (2, OBJECT), (1, SCALAR)],
+        &[(1, 1, 1)],
+        REPEATED,
+        3,
+    ),
+    // a field
+    (&[(1, OBJECT)], &[(1, 1, 1), (1, 2, 0)], UNNAMED, 2),
+    (
+        &[(1, OBJECT)],
+        &[(1, 1, 1), (1, 2, 1), (1, 1, 2)],
+        REPEATED,
+        3,
+    ),
+    (
+        &[(1, OBJECT), (2, SCALAR)],
+        &[(1, 1, 1), (2, 1, 1)],
+        OWNER_UNFIT,
+        2,
+    ),
+    (&[(1, OBJECT)], &[(2, 1, 1)], OWNER_UNFIT, 1),
+    // two: types before fields, and the earlier row
+    (&[(1, OBJECT), (1, OBJECT)], &[(0, 1, 1)], REPEATED, 2),
+    (&[(1, OBJECT)], &[(2, 1, 1), (0, 1, 1)], OWNER_UNFIT, 1),
+];
+
+// Faults of the rows before the slots.
+#[test]
+fn faulty_rows_in_unfit_slots(rt: HostRuntime) -> Result<(), Fail> {
+    for (types, fields, reason, row) in FAULTY {
+        let types = type_rows(rt.alloc(), types)?;
+        let fields = field_rows(rt.alloc(), fields)?;
+        let rows = rootless(types.as_slice(), fields.as_slice());
+        for lent in unfit_slots() {
+            unfit(&rt, lent, &rows, refused(reason, row))?;
+        }
     }
     Ok(())
 }

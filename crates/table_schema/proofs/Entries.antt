@@ -18,8 +18,8 @@ use Rattle.table_schema.specs.declared.fault.SchemaFault.{SchemaFault}
 use Rattle.table_schema.specs.declared.fault.SchemaFault.TheVariants.{OverLimit, SlotsUnfit, InFields}
 use Rattle.table_schema.specs.Keys.{field_key, row_key, entry_key}
 use Rattle.table_schema.specs.Meaning.{no_field, named, owns, known_type, kind_there, kind_of, field_there, field_of}
-use Rattle.refusal.specs.Firsts.{verdict_of}
-use Rattle.table_schema.specs.Verdict.{owns_fields, field_fault, fault_at, types_fault, fields_fault, rows_fault, over_limit, zeros, empty_index, index_fault}
+use Rattle.refusal.specs.Firsts.{or_else, verdict_of}
+use Rattle.table_schema.specs.Verdict.{owns_fields, field_fault, fault_at, types_fault, fields_fault, rows_fault, over_limit, zeros, empty_index, slots_fault, index_fault}
 use Rattle.table_schema.specs.Table.{schema_fault}
 use Rattle.table_schema.specs.Found.{first_with}
 use Rattle.table_schema.specs.Kept.{no_entry, entry_told, kept_field, entry_of, entries_from, OwnersKnown}
@@ -82,15 +82,14 @@ owners_known types rows none i low =
     let owner : (get_or (entries_from 0 rows) i no_entry).key.owner ≡ row.owner = ap (λ e. e.key.owner) (entry_at 0 rows i inside) in
     ap (known_type types) owner ∙ kind_known types (position_from (named row.owner) 0 types) (last_none (eqb row.owner 0 || (eqb row.name 0 || eqb row.inner 0)) (is_some (position_from (owns row.owner row.name) 0 (take i rows))) (owns_fields (kind_of types row.owner)) fine)
 
-accepted : (over fit : Bool) (rows : Option SchemaFault) → Ok tt ≡ verdict_of (cond over (Some OverLimit) (cond fit rows (Some SlotsUnfit))) → (over ≡ false) × (rows ≡ None)
-accepted true fit rows is = let z : ◌≡◌ {A = ℕ} 0 1 = cc in absurd (omega arith)
-accepted false false rows is = let z : ◌≡◌ {A = ℕ} 0 1 = cc in absurd (omega arith)
-accepted false true None is = (refl, refl)
-accepted false true (Some fault) is = let z : ◌≡◌ {A = ℕ} 0 1 = cc in absurd (omega arith)
+accepted : (over : Bool) (rows slots : Option SchemaFault) → Ok tt ≡ verdict_of (cond over (Some OverLimit) (or_else rows slots)) → (over ≡ false) × (rows ≡ None)
+accepted true rows slots is = let z : ◌≡◌ {A = ℕ} 0 1 = cc in absurd (omega arith)
+accepted false None slots is = (refl, refl)
+accepted false (Some fault) slots is = let z : ◌≡◌ {A = ℕ} 0 1 = cc in absurd (omega arith)
 
 -- rows that were indexed keep their limits and have no fault
 pub index_accepted : (types : List TypeRow) (rows : List FieldRow) (a b : List ℕ) → Ok tt ≡ verdict_of (index_fault types rows a b) → (over_limit types rows ≡ false) × (rows_fault types rows ≡ None)
-index_accepted types rows a b is = accepted (over_limit types rows) (empty_index 2048 a && empty_index 8192 b) (rows_fault types rows) is
+index_accepted types rows a b is = accepted (over_limit types rows) (rows_fault types rows) (slots_fault a b) is
 
 -- rows that are indexed in empty slots are refused for their own fault
 zeros_of : (n : ℕ) → zeros (replicate n 0) ≡ true
@@ -100,11 +99,12 @@ zeros_of (suc n) = zeros_of n
 empty_of : (n : ℕ) (slots : List ℕ) → slots ≡ replicate n 0 → empty_index n slots ≡ true
 empty_of n slots is = ap (empty_index n) is ∙ and_from _ _ (eq-eqb _ _ (length-replicate n 0)) (zeros_of n)
 
-refused : (o e : Bool) (r : Option SchemaFault) (fault : SchemaFault) → e ≡ true → Err fault ≡ verdict_of (cond o (Some OverLimit) (cond e r (Some SlotsUnfit))) → cond o (Some OverLimit) r ≡ Some fault
-refused true e r fault empty is = cc
-refused false true None fault empty is = cc
-refused false true (Some f) fault empty is = cc
-refused false false r fault empty is = cc
+refused : (over empty : Bool) (rows : Option SchemaFault) (fault : SchemaFault) → empty ≡ true
+    → Err fault ≡ verdict_of (cond over (Some OverLimit) (or_else rows (cond empty None (Some SlotsUnfit)))) → cond over (Some OverLimit) rows ≡ Some fault
+refused true empty rows fault fit is = cc
+refused false true None fault fit is = let z : ◌≡◌ {A = ℕ} 0 1 = cc in absurd (omega arith)
+refused false true (Some f) fault fit is = cc
+refused false false rows fault fit is = absurd (false≢true fit)
 
 pub index_refused : (types : List TypeRow) (rows : List FieldRow) (a b : List ℕ) (fault : SchemaFault) → a ≡ replicate 2048 0 → b ≡ replicate 8192 0 → Err fault ≡ verdict_of (index_fault types rows a b) → schema_fault types rows ≡ Some fault
 index_refused types rows a b fault here there is =

@@ -18,10 +18,6 @@ use Rattle.table_schema.specs.Meaning.{owns, known_type, kind_of}
 abbrev pub over_limit : List TypeRow → List FieldRow → Bool
 over_limit types fields = nat_lt 1024 (length types) || nat_lt 4096 (length fields)
 
--- what is wrong with a row by whether its key came before
-abbrev pub repeated : Bool → Option RowFault
-repeated came = cond came (Some Repeated) None
-
 -- what is wrong with a type that comes after others: its name is 0, its kind is not 1 to 6, it came before
 abbrev pub type_fault : List TypeRow → TypeRow → Option RowFault
 type_fault before row =
@@ -68,8 +64,12 @@ zeros slots = list_all (λ s. s == 0) slots
 abbrev pub empty_index : ℕ → List ℕ → Bool
 empty_index size slots = length slots == size && zeros slots
 
--- the verdict on rows that are to be indexed in these slots: sizes first, then the slots, then the rows
+-- what is wrong with the slots that are lent: they are no empty indexes of 2,048 and of 8,192 slots
+abbrev pub slots_fault : List ℕ → List ℕ → Option SchemaFault
+slots_fault type-slots field-slots = cond (empty_index 2048 type-slots && empty_index 8192 field-slots) None (Some SlotsUnfit)
+
+-- the verdict on rows that are to be indexed in these slots: sizes first, then the rows, then the slots
 abbrev pub index_fault : List TypeRow → List FieldRow → List ℕ → List ℕ → Option SchemaFault
 index_fault types fields type-slots field-slots =
     cond (over_limit types fields) (Some OverLimit)
-    (cond (empty_index 2048 type-slots && empty_index 8192 field-slots) (rows_fault types fields) (Some SlotsUnfit))
+    (or_else (rows_fault types fields) (slots_fault type-slots field-slots))

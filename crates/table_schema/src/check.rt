@@ -1,21 +1,17 @@
 // Checks rows and indexes them, in slots that the caller lends: the first fault, or a sound index of both tables.
-ghost use Rattle.std.specs.Prelude.{◌≡◌, ℕ, ◌<◌, ◌≤◌, List, Option, [], ◌∷◌, ◌++◌, map, length, is_some, IfOk, MatchResult};
+ghost use Rattle.std.specs.Prelude.{◌≡◌, ◌<◌, ◌≤◌, false, [], ◌∷◌, ◌++◌, map, length, is_some, IfOk, MatchResult};
 ghost use Rattle.refusal.specs.Firsts.{verdict_of, first_fault};
 ghost use Rattle.ordered_index.specs.Slots.{limit};
 ghost use Rattle.ordered_index.specs.Sound.{Sound};
 ghost use Rattle.ordered_index.specs.Keys.{same_name, name_hash, same_field, field_hash};
 ghost use Rattle.table_schema.specs.Keys.{type_key, row_key};
-ghost use Rattle.table_schema.specs.Found.{place_with, KeysFound};
-ghost use Rattle.table_schema.specs.Verdict.{over_limit, type_fault, field_fault, fault_at, rows_fault, empty_index, index_fault, owns_fields, repeated};
-ghost use Rattle.table_schema.specs.Meaning.{kind_of};
-ghost use Rattle.table_schema.specs.declared.fault.RowFault.{RowFault};
-ghost use Rattle.table_schema.specs.declared.fault.SchemaFault.{SchemaFault};
-ghost use Rattle.table_schema.specs.declared.fault.SchemaFault.TheVariants.{InTypes, InFields};
+ghost use Rattle.table_schema.specs.Found.{place_with};
+ghost use Rattle.table_schema.specs.Verdict.{over_limit, fault_at, rows_fault, empty_index, index_fault};
 
-use crate::fault::{RowFault, SchemaFault};
+use crate::fault::SchemaFault;
+use crate::judge::{FoundTypes, SchemaRow, judge_tables};
 use crate::rows::{FieldRow, SchemaRows, TypeRow};
-use ordered_index::{Entered, Entry, Key, empty, enter, find};
-use schema::TypeKind;
+use ordered_index::{Entered, Entry, Key, empty, enter};
 
 // How many types and fields a schema holds, and the slots of the index of each: twice as many.
 const MAX_TYPES: usize = 1024;
@@ -42,113 +38,17 @@ fn is_empty_index(slots: &[u32], size: usize) -> bool
     slots.len() == size && slots.iter().all(|s| *s == 0)
 }
 
-// Enters the key of a row into the index of the rows before it, unless one of them has it.
-fn enter_new<E: Entry>(before: &[E], slots: &mut [u32], key: &E::Of) -> Result<(), RowFault>
+// Whether one of the rows before has the key. If none has, the key is entered into their index.
+fn enter_new<E: Entry>(before: &[E], slots: &mut [u32], key: &E::Of) -> bool
     requires room { length before.now < limit slots.old }
     requires sound { Sound E.Of.eq E.Of.digest (map E.keyed before.now) slots.old }
-    ensures fault { result ≡ verdict_of (repeated (is_some (place_with E.keyed E.Of.eq key.now before.now))) }
-    ensures sound { IfOk result (λ _. Sound E.Of.eq E.Of.digest (map E.keyed before.now ++ key.now ∷ []) slots.new) }
+    ensures came { result ≡ is_some (place_with E.keyed E.Of.eq key.now before.now) }
+    ensures sound { result ≡ false → Sound E.Of.eq E.Of.digest (map E.keyed before.now ++ key.now ∷ []) slots.new }
 {
     match enter(before, slots, key) {
-        Entered::Added(_) => Ok(()),
-        Entered::Present(_) => Err(RowFault::Repeated),
+        Entered::Added(_) => false,
+        Entered::Present(_) => true,
         Entered::Full => unreachable(),
-    }
-}
-
-// A row of a schema: it is entered behind the rows before it, unless something is wrong with it. The check of a field
-// looks at the types too; beside a type there is nothing to look at.
-trait SchemaRow<B>: Entry {
-    // What is wrong with a row behind these rows.
-    ghost fault_behind: { B → List Self → Self → Option RowFault };
-
-    // How that is told with the row's place plus 1.
-    ghost told_as: { RowFault → ℕ → SchemaFault };
-
-    fn enter(&self, beside: &B, before: &[Self], slots: &mut [u32]) -> Result<(), RowFault>
-        requires room { length before.now < limit slots.old }
-        requires sound { Sound Self.Of.eq Self.Of.digest (map Self.keyed before.now) slots.old }
-        ensures fault { result ≡ verdict_of (fault_behind beside.now before.now self.now) }
-        ensures sound { IfOk result (λ _. Sound Self.Of.eq Self.Of.digest (map Self.keyed before.now ++ Self.keyed self.now ∷ []) slots.new) };
-
-    fn told(fault: RowFault, row: u32) -> SchemaFault
-        ensures { result ≡ told_as fault row };
-}
-
-impl SchemaRow<()> for TypeRow {
-    ghost fault_behind = { λ _. type_fault };
-
-    ghost told_as = { InTypes };
-
-    fn enter(&self, _beside: &(), before: &[TypeRow], slots: &mut [u32]) -> Result<(), RowFault> {
-        if self.name == 0 {
-            return Err(RowFault::NameMissing);
-        }
-        if TypeKind::try_from(self.kind).is_err() {
-            return Err(RowFault::KindUnknown);
-        }
-        enter_new(before, slots, &self.name)
-    }
-
-    fn told(fault: RowFault, row: u32) -> SchemaFault {
-        SchemaFault::InTypes(fault, row)
-    }
-}
-
-// Whether types of this kind own fields.
-fn owns_fields(kind: Option<TypeKind>) -> bool
-    ensures { result ≡ owns_fields kind }
-{
-    matches!(kind, Some(TypeKind::Object | TypeKind::Interface))
-}
-
-// The types of a schema beside slots that find each of them by its name.
-#[derive(Clone, Copy)]
-struct FoundTypes<'a> {
-    rows: &'a [TypeRow],
-    slots: &'a [u32],
-    ghost found: { KeysFound type_key same_name name_hash rows.now slots.now },
-}
-
-impl FoundTypes<'_> {
-    // Whether the type owns fields: it is one of the rows, and an object or an interface.
-    fn is_owner(&self, owner: u32) -> bool
-        ensures { result ≡ owns_fields (kind_of self.now.rows.now owner) }
-    {
-        match find(self.rows, self.slots, &owner) {
-            Some(i) => owns_fields(TypeKind::try_from(self.rows[i].kind).ok()),
-            None => false,
-        }
-    }
-}
-
-impl SchemaRow<FoundTypes<'_>> for FieldRow {
-    ghost fault_behind = { λ types. field_fault types.rows.now };
-
-    ghost told_as = { InFields };
-
-    fn enter(
-        &self,
-        types: &FoundTypes<'_>,
-        before: &[FieldRow],
-        slots: &mut [u32],
-    ) -> Result<(), RowFault> {
-        if self.owner == 0 || self.name == 0 || self.inner == 0 {
-            return Err(RowFault::NameMissing);
-        }
-        enter_new(before, slots, &self.key())?;
-        if types.is_owner(self.owner) {
-            Ok(())
-        } else {
-            Err(RowFault::OwnerUnfit)
-        }
-    }
-
-    // The clause is that of the trait, which the check does not give to an impl at a type with a lifetime.
-    fn told(fault: RowFault, row: u32) -> SchemaFault
-        ensures { result ≡ InFields fault row }
-    {
-        SchemaFault::InFields(fault, row)
     }
 }
 
@@ -164,7 +64,8 @@ fn index_all<B, R: SchemaRow<B>>(
     ensures sound { IfOk result (λ _. Sound R.Of.eq R.Of.digest (map R.keyed rows.now) slots.new) }
 {
     for (i, row) in rows.iter().enumerate() {
-        if let Err(fault) = row.enter(beside, &rows[..i], slots) {
+        let came = enter_new(&rows[..i], slots, &row.key());
+        if let Err(fault) = row.judge(beside, came) {
             return Err(R::told(fault, (i + 1) as u32));
         }
     }
@@ -185,15 +86,13 @@ fn index_tables(
     ensures sound { IfOk result (λ _. Sound same_name name_hash (map type_key rows.now.types.now) type_slots.new × Sound same_field field_hash (map row_key rows.now.fields.now) field_slots.new) }
 {
     index_all(rows.types, &(), type_slots)?;
-    let types = FoundTypes {
-        rows: rows.types,
-        slots: type_slots,
-    };
+    let types = FoundTypes::new(rows.types, Some(type_slots));
     index_all(rows.fields, &types, field_slots)
 }
 
 /// Checks the rows of a schema and indexes them in the slots, which are lent empty: 2,048 for the types and 8,192 for
-/// the fields. A refusal leaves the slots as they were handed over.
+/// the fields. Other slots are refused where nothing is wrong with the rows. A refusal leaves the slots as they were
+/// handed over.
 pub fn index_rows(
     rows: &SchemaRows<'_>,
     type_slots: &mut [u32],
@@ -206,6 +105,7 @@ pub fn index_rows(
         return Err(SchemaFault::OverLimit);
     }
     if !is_empty_index(type_slots, TYPE_SLOTS) || !is_empty_index(field_slots, FIELD_SLOTS) {
+        judge_tables(rows)?;
         return Err(SchemaFault::SlotsUnfit);
     }
     let verdict = index_tables(rows, type_slots, field_slots);

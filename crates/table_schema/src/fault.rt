@@ -43,7 +43,7 @@ pub enum SchemaFault {
     /// More types or more fields than a schema holds.
     #[error("it has more types or fields than a schema holds")]
     OverLimit,
-    /// The slots that were lent are not an empty index of the size that is asked for.
+    /// Nothing is wrong with the rows, and the slots that were lent are not an empty index of the size that is asked for.
     #[error("the slots that were lent do not fit it")]
     SlotsUnfit,
     /// The first faulty row is one of the types.

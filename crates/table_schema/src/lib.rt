@@ -8,6 +8,7 @@
 mod check;
 mod fault;
 mod indexed;
+mod judge;
 mod original;
 mod rows;
 mod table;

@@ -1,15 +1,11 @@
 use Rattle.std.proofs.Common.{is_some, Some, None, ap}
-use Rattle.refusal.specs.Firsts.{verdict_of}
 use Rattle.ordered_index.proofs.Firsts.{located_place}
-use Rattle.table_schema.specs.Verdict.{repeated}
 use Rattle.table_schema.proofs.check.enter_new.Goals as goal
 
-pub returns-in-Added-clause-fault : goal.returns-in-Added-clause-fault
-returns-in-Added-clause-fault g c =
-    ap (λ at. verdict_of (repeated (is_some at)))
-    (located_place g.E.Entry.keyed g.E.Of.PartialEq.eq c.args.before.now c.args.key.now None (c.in-Added.ensures.located c.requires.sound))
+pub returns-in-Added-clause-came : goal.returns-in-Added-clause-came
+returns-in-Added-clause-came g c =
+    ap is_some (located_place g.E.Entry.keyed g.E.Of.PartialEq.eq c.args.before.now c.args.key.now None (c.in-Added.ensures.located c.requires.sound))
 
-pub returns-in-Present-clause-fault : goal.returns-in-Present-clause-fault
-returns-in-Present-clause-fault g c =
-    ap (λ at. verdict_of (repeated (is_some at)))
-    (located_place g.E.Entry.keyed g.E.Of.PartialEq.eq c.args.before.now c.args.key.now (Some c.in-Present.field-0) (c.in-Present.ensures.located c.requires.sound))
+pub returns-in-Present-clause-came : goal.returns-in-Present-clause-came
+returns-in-Present-clause-came g c =
+    ap is_some (located_place g.E.Entry.keyed g.E.Of.PartialEq.eq c.args.before.now c.args.key.now (Some c.in-Present.field-0) (c.in-Present.ensures.located c.requires.sound))
