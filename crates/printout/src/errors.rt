@@ -3,7 +3,7 @@ use crate::answers::Operations;
 use crate::outlines::operation_word;
 use crate::shown::Shown;
 use schema::Name;
-use selection_rules::{BuildError, ExecutableDefinitionName};
+use selection_rules::{BuildError, ErrorNumbers, ExecutableDefinitionName};
 use std::fmt;
 
 /// An error that is listed, with the response keys of its path.
@@ -13,29 +13,12 @@ pub struct Listed<'t> {
     pub keys: &'t [Name],
 }
 
-/// Where the error is.
-fn location_of(error: BuildError) -> u32 {
-    match error {
-        BuildError::TypeSystemDefinition { location, .. }
-        | BuildError::AmbiguousAnonymousOperation { location }
-        | BuildError::OperationNameCollision { location, .. }
-        | BuildError::FragmentNameCollision { location, .. }
-        | BuildError::UndefinedRootOperation { location, .. }
-        | BuildError::UndefinedTypeInNamedFragmentTypeCondition { location, .. }
-        | BuildError::UndefinedTypeInInlineFragmentTypeCondition { location, .. }
-        | BuildError::SubselectionOnScalarType { location, .. }
-        | BuildError::SubselectionOnEnumType { location, .. }
-        | BuildError::UndefinedField { location, .. } => location,
-    }
-}
-
 /// An error, as `Error 10 at 11: Meter has no field gas (anonymous query > meter > gas)`.
 impl fmt::Display for Shown<'_, '_, Listed<'_>> {
     fn fmt<W: fmt::Write>(&self, f: &mut fmt::Formatter<W>) -> fmt::Result {
         let names = self.names;
         let Listed { error, keys } = self.value;
-        let code = error.code();
-        let location = location_of(error);
+        let ErrorNumbers { code, location, .. } = error.numbers();
         let fault = Shown {
             names,
             value: error,

@@ -1,6 +1,6 @@
 // Errors, stored definitions and stored rows as lines of numbers.
 use document::{DefinitionRow, SelectionRow};
-use selection_rules::{BuildError, ExecutableDefinitionName, SelectionPath, StoredRow};
+use selection_rules::{BuildError, ErrorNumbers, StoredRow};
 use std::fmt;
 use stored_tables::StoredDefinition;
 
@@ -27,81 +27,29 @@ pub struct ErrorLine<'t> {
 
 impl fmt::Display for ErrorLine<'_> {
     fn fmt<W: fmt::Write>(&self, f: &mut fmt::Formatter<W>) -> fmt::Result {
-        let code = self.error.code();
-        let members = members_of(self.error);
+        let ErrorNumbers {
+            code,
+            location,
+            operation_type,
+            kind,
+            first_name,
+            second_name,
+            second_location,
+            path,
+        } = self.error.numbers();
+        let members = [
+            location,
+            operation_type,
+            kind,
+            first_name,
+            second_name,
+            second_location,
+        ];
         let members = Numbers(&members);
-        let root = root_numbers(self.error.path());
+        let root = [path.root.kind, path.root.operation_type, path.root.name];
         let root = Numbers(&root);
         let keys = Numbers(self.keys);
         write!(f, "error {code}{members} |{root} |{keys}")
-    }
-}
-
-// Location, operation type, kind, first and second name, and second location; 0 what the error does not carry.
-fn members_of(error: BuildError) -> [u32; 6] {
-    match error {
-        BuildError::TypeSystemDefinition {
-            location,
-            name,
-            kind,
-        } => [location, 0, kind, name, 0, 0],
-        BuildError::AmbiguousAnonymousOperation { location } => [location, 0, 0, 0, 0, 0],
-        BuildError::OperationNameCollision {
-            location,
-            name,
-            previous_location,
-        }
-        | BuildError::FragmentNameCollision {
-            location,
-            name,
-            previous_location,
-        } => [location, 0, 0, name, 0, previous_location],
-        BuildError::UndefinedRootOperation {
-            location,
-            operation_type,
-        } => [location, operation_type.number(), 0, 0, 0, 0],
-        BuildError::UndefinedTypeInNamedFragmentTypeCondition {
-            location,
-            type_name,
-            fragment_name,
-        } => [location, 0, 0, type_name, fragment_name, 0],
-        BuildError::UndefinedTypeInInlineFragmentTypeCondition {
-            location,
-            type_name,
-            ..
-        }
-        | BuildError::SubselectionOnScalarType {
-            location,
-            type_name,
-            ..
-        }
-        | BuildError::SubselectionOnEnumType {
-            location,
-            type_name,
-            ..
-        } => [location, 0, 0, type_name, 0, 0],
-        BuildError::UndefinedField {
-            location,
-            type_name,
-            field_name,
-            ..
-        } => [location, 0, 0, type_name, field_name, 0],
-    }
-}
-
-// Kind, operation type and name of the definition that a path starts at.
-fn root_numbers(path: Option<SelectionPath>) -> [u32; 3] {
-    let Some(path) = path else {
-        return [0; 3];
-    };
-    match path.root {
-        ExecutableDefinitionName::AnonymousOperation(operation_type) => {
-            [1, operation_type.number(), 0]
-        }
-        ExecutableDefinitionName::NamedOperation(operation_type, name) => {
-            [1, operation_type.number(), name]
-        }
-        ExecutableDefinitionName::Fragment(name) => [2, 0, name],
     }
 }
 

@@ -2,4 +2,5 @@
 pub mod Stored
 pub mod Settle
 pub mod Errors
+pub mod Numbers
 pub mod Sets

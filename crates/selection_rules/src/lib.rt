@@ -3,9 +3,11 @@
 #![tactic(auto)]
 
 mod error;
+mod numbers;
 mod settling;
 mod stored;
 
 pub use error::{BuildError, ExecutableDefinitionName, SelectionPath};
+pub use numbers::{ErrorNumbers, PathNumbers, RootNumbers};
 pub use settling::{SelectionFault, Settled, settle};
 pub use stored::StoredRow;
