@@ -29,11 +29,11 @@ pub data Stands (m : Meaning) : ℕ → Forest Selection → ℕ → Selection �
   deeper : {around : ℕ} {b : Selection} {under after : Forest Selection} {t : ℕ} {s : Selection} {below : Forest Selection} (inner : ℕ)
       → Inside m around b inner → Stands m inner under t s below → Stands m around (row b under after) t s below
 
--- among the selections f and anywhere beneath them stands the selection s, in whatever type
-pub data Within : Forest Selection → Selection → Type 0 where
-  here : {s : Selection} {below after : Forest Selection} → Within (row s below after) s
-  later : {b : Selection} {under after : Forest Selection} {s : Selection} → Within after s → Within (row b under after) s
-  deeper : {b : Selection} {under after : Forest Selection} {s : Selection} → Within under s → Within (row b under after) s
+-- x stands somewhere in a forest
+pub data Occurs {A : Type 0} (x : A) : Forest A → Type 0 where
+  here : {below after : Forest A} → Occurs x (row x below after)
+  later : {a : A} {below after : Forest A} → Occurs x after → Occurs x (row a below after)
+  deeper : {a : A} {below after : Forest A} → Occurs x below → Occurs x (row a below after)
 
 -- Definitions by their roles
 
@@ -159,7 +159,7 @@ FragmentTypeExistence m ds =
     AllByRecursion
     (λ d.
     (Fragment d → m.known d.head.condition ≡ true)
-    × (Operation d ⊎ Fragment d → (s : Selection) → Within d.selected s → form_of s ≡ inline → s.condition ≢ 0 → m.known s.condition ≡ true))
+    × (Operation d ⊎ Fragment d → (s : Selection) → Occurs s d.selected → form_of s ≡ inline → s.condition ≢ 0 → m.known s.condition ≡ true))
     ds
 
 -- Section 3.3.1, root operation types: for each operation, the schema must have a root type for its operation type.
