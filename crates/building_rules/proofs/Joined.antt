@@ -46,7 +46,7 @@ module _ (m : Meaning) (d : Accepted) where
   fragment_of type_system l e = absurd (false≢true e)
 
   module _ (law : Lawful m) (closed : Closed m) (l : Local m d (role_of d.head)) where
-    around_fine : (t : ℕ) → Around m d t → (m.known t ≡ true) × (errors m (start_path d.head) t d.selected ≡ [])
+    around_fine : (t : ℕ) → Around m d.head t → (m.known t ≡ true) × (errors m (start_path d.head) t d.selected ≡ [])
     around_fine t (of_root v o e) =
         let r = rooted_of (role_of d.head) l o in
         let root = r.root in
@@ -59,7 +59,7 @@ module _ (m : Meaning) (d : Accepted) where
         let r = around_fine s.outer s.around in
         stands_good m law closed (start_path d.head) s.stands r.0 r.1
 
-    some_around : Operation d ⊎ Fragment d → (t : ℕ) × Around m d t
+    some_around : Operation d ⊎ Fragment d → (t : ℕ) × Around m d.head t
     some_around (inl o) = let r = rooted_of (role_of d.head) l o in (r.type, of_root r.type o r.root)
     some_around (inr f) = (d.head.condition, of_fragment f)
 
@@ -78,7 +78,7 @@ module _ (m : Meaning) (d : Accepted) where
         }
 
   module _ (s : Sound m d) where
-    clean : (t : ℕ) → Operation d ⊎ Fragment d → Around m d t → errors m (start_path d.head) t d.selected ≡ []
+    clean : (t : ℕ) → Operation d ⊎ Fragment d → Around m d.head t → errors m (start_path d.head) t d.selected ≡ []
     clean t o r =
         no_faults m (start_path d.head) t d.selected
         (λ u a below w.

@@ -2,7 +2,7 @@
 use Rattle.std.specs.Prelude.{◌≡◌, ℕ, ◌<◌, Bool, true, false, ◌&&◌, ◌||◌, ◌≢◌, ◌⊎◌, List, [], length, Some, Ok, filter, Option, ◌==◌}
 use Rattle.std.specs.List.{AllByRecursion}
 use Rattle.layout.specs.Forest.{Forest, none, row}
-use Rattle.document.specs.Rows.{Selection}
+use Rattle.document.specs.Rows.{Selection, Head}
 use Rattle.schema.specs.declared.answers.TypeKind.{TypeKind}
 use Rattle.schema.specs.declared.answers.TypeKind.TheVariants.{Scalar, Enum}
 use Rattle.schema.specs.declared.answers.FieldDefinition.{FieldDefinition}
@@ -98,15 +98,15 @@ Named d = is_named d ≡ true
 abbrev pub Fragment : Accepted → Type 0
 Fragment d = is_fragment d ≡ true
 
--- the type around the selections of a definition: its root, or its condition
-pub data Around (m : Meaning) (d : Accepted) : ℕ → Type 0 where
-  of_root : (t : ℕ) → Operation d → m.root (operation_of d.head) ≡ Some t → Around m d t
-  of_fragment : Fragment d → Around m d d.head.condition
+-- the type around the selections of a definition with this head: the root of its operation type, or its condition
+pub data Around (m : Meaning) (h : Head) : ℕ → Type 0 where
+  of_root : (t : ℕ) → operation_role (role_of h) ≡ true → m.root (operation_of h) ≡ Some t → Around m h t
+  of_fragment : fragment_role (role_of h) ≡ true → Around m h h.condition
 
 -- the selection s, with the selections `below` beneath it, stands in the type t somewhere beneath the definition d
 pub record Selected (m : Meaning) (d : Accepted) (t : ℕ) (s : Selection) (below : Forest Selection) : Type 0 where
   pub outer : ℕ
-  pub around : Around m d outer
+  pub around : Around m d.head outer
   pub stands : Stands m outer d.selected t s below
 
 -- a field of that name is defined on the type t
