@@ -1,6 +1,7 @@
 -- What the certificate of a list of calls says of a builder and its tables; and how the list begins and grows.
 use Rattle.std.proofs.Common.{◌≡◌, ◌↔◌, ℕ, ◌≤◌, Bool, true, false, cond, List, [], ◌∷◌, ◌++◌, map, length, take, Some, None, Option, sym, refl, ap, ◌∙◌, subst, arith}
 use Rattle.std.specs.List.{AllByRecursion}
+use Rattle.std.proofs.ByRecursion.{All-append}
 use Rattle.std.proofs.lemmas.Bool.{le-ltb, or_from, or_parts, not-false, eqb-true}
 use Rattle.std.proofs.lemmas.List.{append-nil, length-take, nil_from_length}
 use Rattle.refusal.proofs.Firsts.{or_else_none}
@@ -19,7 +20,7 @@ use Rattle.building_rules.specs.Calls.{Call, document_in, accepted, kept, listed
 use Rattle.building_rules.specs.Storable.{Sound}
 use Rattle.building_rules.proofs.Histories.{documents_are_read, histories_grow}
 use Rattle.building_rules.proofs.Joined.{no_errors_exactly_when_valid}
-use Rattle.building_rules.proofs.Storable.{all_join, kept_is_storable}
+use Rattle.building_rules.proofs.Storable.{kept_is_storable}
 use Rattle.stored_tables.specs.declared.definition.StoredDefinition.{StoredDefinition}
 use Rattle.stored_tables.specs.declared.fault.StoredFault.{StoredFault}
 use Rattle.stored_tables.specs.declared.fault.StoredFault.TheVariants.{InAnonymous, InOperations, InFragments, InRows}
@@ -118,7 +119,7 @@ module _ {S : Type 0} (meaning : S → Meaning) (m : Meaning) where
             start = restarted w.start h;
             fresh = again m w.start h ds w.fresh w.holds;
             holds = taken ∙ go_on m w.start h ds w.fresh w.holds w.within new ∙ ap (taken_in m (restarted w.start h)) (sym grown);
-            sound = subst (AllByRecursion Sound) (sym grown) (all_join Sound ds new w.sound (sound_document strict d is.keep));
+            sound = subst (AllByRecursion Sound) (sym grown) (All-append Sound ds new w.sound (sound_document strict d is.keep));
             within = subst Within (sym taken) (within_after m h new space);
             operations = operations;
             fragments = fragments;

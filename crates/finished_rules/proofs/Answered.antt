@@ -1,6 +1,7 @@
 -- Kept rows have the places and the set types that the schema answers: where the handed members agree, so do these.
 use Rattle.std.proofs.Common.{◌≡◌, ℕ, true, List, [], ◌∷◌, Ok, sym, refl, ap, ◌∙◌, subst}
 use Rattle.std.specs.List.{AllByRecursion}
+use Rattle.std.proofs.ByRecursion.{All-append}
 use Rattle.std.proofs.lemmas.Bool.{false≢true}
 use Rattle.layout.specs.Forest.{Forest, none, row}
 use Rattle.document.specs.Rows.{Selection, Head}
@@ -14,7 +15,6 @@ use Rattle.building_rules.specs.Rules.{Inside, of_field, of_condition, of_around
 use Rattle.building_rules.specs.Keeping.{StoredAs}
 use Rattle.building_rules.proofs.Settling.{field_spread, field_inline, spread_inline, View, stays, drops, faults, view}
 use Rattle.building_rules.proofs.Steps.{Stores, as_anonymous, as_named, as_fragment, Becomes, becomes}
-use Rattle.building_rules.proofs.Storable.{all_join}
 use Rattle.finished_rules.specs.Same.{Alike, SameSelection, SameHead}
 use Rattle.finished_rules.specs.SameTables.{SameStored}
 use Rattle.finished_rules.specs.Answered.{Answered, RowsFollow, KeptAsAnswered, KeptIsAnswered, AnswersFollow}
@@ -50,7 +50,7 @@ module _ (m : Meaning) where
   all_answered : (s : State) (ds : List Accepted) → AllByRecursion (KeptAsAnswered m) (kept_from m s ds)
   all_answered s [] = tt
   all_answered s (d ∷ ds) =
-      all_join (KeptAsAnswered m) (step m s d).kept (kept_from m (step m s d).next ds) (one_answered s d (step m s d) (becomes m s d)) (all_answered (step m s d).next ds)
+      All-append (KeptAsAnswered m) (step m s d).kept (kept_from m (step m s d).next ds) (one_answered s d (step m s d) (becomes m s d)) (all_answered (step m s d).next ds)
 
 pub kept_is_answered : KeptIsAnswered
 kept_is_answered m ds = all_answered m fresh ds
