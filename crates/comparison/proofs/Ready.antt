@@ -16,7 +16,7 @@ use Rattle.selection_rules.specs.Stored.{stored_selections, stored_rules, stored
 use Rattle.stored_tables.specs.declared.definition.StoredDefinition.{StoredDefinition}
 use Rattle.stored_tables.specs.declared.fault.StoredFault.{StoredFault}
 use Rattle.stored_tables.specs.declared.fault.StoredFault.TheVariants.{InAnonymous, InOperations, InFragments, InRows}
-use Rattle.stored_tables.specs.Verdict.{first_place, whole_as, anonymous_broken, unfit, stray, unfit_in, broken_row, alone, all_stored, told_in, stored_fault}
+use Rattle.stored_tables.specs.Verdict.{no_stored_row, first_place, whole_as, anonymous_broken, unfit, stray, unfit_in, broken_row, alone, all_stored, told_in, stored_fault}
 use Rattle.stored_tables.specs.Ranges.{Placed, InOrder}
 use Rattle.stored_tables.proofs.Places.{no_place, place_none, place_of}
 use Rattle.stored_tables.proofs.Following.{in_place, clean_in_order}
@@ -24,7 +24,7 @@ use Rattle.stored_tables.proofs.Misfits.{unfit_places}
 use Rattle.finished_tables.specs.declared.indexed.IndexedDocument.{IndexedDocument}
 use Rattle.finished_tables.specs.Indexes.{HasIndexes}
 use Rattle.comparison.specs.Comparing.{fault_of}
-use Rattle.comparison.specs.Ranged.{no_stored_row, RangedIn, RangedIf, ReadyDocument}
+use Rattle.comparison.specs.Ranged.{RangedIn, RangedIf, ReadyDocument}
 
 no_told : (told : ℕ → StoredFault) (place : Option ℕ) → told_in told place ≡ None → place ≡ None
 no_told told None is = refl

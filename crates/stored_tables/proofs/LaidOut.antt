@@ -12,21 +12,17 @@ use Rattle.layout.specs.Forest.{size, flatten}
 use Rattle.layout.specs.Places.{fault_in, misfit, first_misfit}
 use Rattle.layout.proofs.Tables.{length-flatten}
 use Rattle.layout.proofs.Forests.{clean as forest_clean}
-use Rattle.document.specs.Rows.{head_unnamed, head_broken, selection_of}
-use Rattle.document.specs.Sets.{no_row}
+use Rattle.document.specs.Rows.{head_unnamed, head_broken}
 use Rattle.selection_rules.specs.declared.stored.StoredRow.{StoredRow}
-use Rattle.selection_rules.specs.Stored.{stored, stored_row, stored_view, stored_selections, stored_rules}
+use Rattle.selection_rules.specs.Stored.{stored_row, stored_view, stored_selections, stored_rules}
 use Rattle.building_rules.specs.Definitions.{Kept, Role, anonymous_operation, named_operation, fragment, type_system, role_of}
 use Rattle.building_rules.specs.Rules.{anonymous_role, named_role, fragment_role, operation_role}
 use Rattle.building_rules.specs.Storable.{Storable}
 use Rattle.stored_tables.specs.declared.definition.StoredDefinition.{StoredDefinition}
 use Rattle.stored_tables.specs.Layout.{stored_head, laid_out, rows_of, those_of}
-use Rattle.stored_tables.specs.Verdict.{holds, unfit, unfit_in}
+use Rattle.stored_tables.specs.Verdict.{no_stored_row, holds, unfit, unfit_in}
 use Rattle.stored_tables.specs.Ranges.{Placed, InOrder}
 use Rattle.stored_tables.proofs.Following.{held_before, none_hold, in_order_from}
-
-no_stored_row : StoredRow
-no_stored_row = stored_row (stored (selection_of no_row) 0 0) 0
 
 -- the rows of `rows` from s on are those of ks, up to the end
 pub record RestIs (rows : List StoredRow) (s : ℕ) (ks : List Kept) : Type 0 where

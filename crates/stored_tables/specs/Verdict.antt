@@ -5,7 +5,7 @@ use Rattle.refusal.specs.Firsts.{or_else}
 use Rattle.layout.specs.declared.row.RowView.{RowView}
 use Rattle.layout.specs.Places.{fault_in}
 use Rattle.document.specs.Rows.{is_operation, is_fragment, named_operation, head_unnamed, head_broken}
-use Rattle.document.specs.Sets.{no_definition_row}
+use Rattle.document.specs.Sets.{no_row, no_definition_row}
 use Rattle.document.specs.declared.kinds.DefinitionKind.{DefinitionKind}
 use Rattle.document.specs.declared.kinds.DefinitionKind.TheVariants.{Operation, Fragment, TypeSystem}
 use Rattle.selection_rules.specs.declared.stored.StoredRow.{StoredRow}
@@ -20,10 +20,15 @@ abbrev pub first_place : (ℕ → Bool) → ℕ → ℕ → Option ℕ
 first_place test i zero = None
 first_place test i (suc left) = cond (test i) (Some i) (first_place test (i + 1) left)
 
--- The definitions
+-- What stands past the last of a table
 
 abbrev pub no_stored_definition : StoredDefinition
 no_stored_definition = record { row = no_definition_row; set_type = 0 }
+
+abbrev pub no_stored_row : StoredRow
+no_stored_row = record { selection = no_row; place = 0; set_type = 0 }
+
+-- The definitions
 
 abbrev pub definition_at : List StoredDefinition → ℕ → StoredDefinition
 definition_at ds i = slice_index_or ds i no_stored_definition

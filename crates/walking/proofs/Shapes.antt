@@ -18,13 +18,13 @@ use Rattle.stored_tables.specs.declared.stored.StoredDocument.{StoredDocument}
 use Rattle.stored_tables.specs.declared.fault.StoredFault.{StoredFault}
 use Rattle.stored_tables.specs.declared.fault.StoredFault.TheVariants.{InAnonymous, InOperations, InFragments, InRows}
 use Rattle.stored_tables.specs.Layout.{name_of}
-use Rattle.stored_tables.specs.Verdict.{definition_at, no_stored_definition, whole_as, anonymous_broken, holds, unfit_in, stray, broken_row, alone, all_stored, told_in}
+use Rattle.stored_tables.specs.Verdict.{definition_at, no_stored_definition, no_stored_row, whole_as, anonymous_broken, holds, unfit_in, stray, broken_row, alone, all_stored, told_in}
 use Rattle.stored_tables.specs.Ranges.{InOrder}
 use Rattle.stored_tables.proofs.Places.{no_place}
 use Rattle.stored_tables.proofs.Following.{clean_in_order, held_in_all, in_place}
 use Rattle.finished_tables.specs.declared.indexed.IndexedDocument.{IndexedDocument}
 use Rattle.walking.specs.declared.judge.Lengths.{Lengths}
-use Rattle.finished_rules.specs.ReachesInTables.{no_stored_row, row_at, fragment_at, Beneath}
+use Rattle.finished_rules.specs.ReachesInTables.{row_at, fragment_at, Beneath}
 use Rattle.walking.specs.Tables.{InShape, Walkable}
 use Rattle.walking.specs.Refusals.{fault_of, operation_at, Accepted}
 
