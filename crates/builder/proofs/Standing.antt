@@ -4,8 +4,6 @@ use Rattle.std.specs.List.{AllByRecursion}
 use Rattle.std.proofs.ByRecursion.{All-append}
 use Rattle.std.proofs.lemmas.Bool.{le-ltb, or_from, or_parts, not-false, eqb-true}
 use Rattle.std.proofs.lemmas.List.{append-nil, length-take, nil_from_length}
-use Rattle.refusal.proofs.Firsts.{or_else_none}
-use Rattle.document.specs.declared.kinds.DefinitionKind.TheVariants.{Operation, Fragment}
 use Rattle.document.specs.declared.rows.DefinitionRow.{DefinitionRow}
 use Rattle.document.specs.declared.rows.SelectionRow.{SelectionRow}
 use Rattle.document.specs.Document.{Definition, IsDocument}
@@ -22,11 +20,9 @@ use Rattle.building_rules.proofs.Histories.{documents_are_read, histories_grow}
 use Rattle.building_rules.proofs.Joined.{no_errors_exactly_when_valid}
 use Rattle.building_rules.proofs.Storable.{kept_is_storable}
 use Rattle.stored_tables.specs.declared.definition.StoredDefinition.{StoredDefinition}
-use Rattle.stored_tables.specs.declared.fault.StoredFault.{StoredFault}
-use Rattle.stored_tables.specs.declared.fault.StoredFault.TheVariants.{InAnonymous, InOperations, InFragments, InRows}
 use Rattle.stored_tables.specs.declared.tables.Tables.{Tables}
-use Rattle.stored_tables.specs.Verdict.{first_place, whole_as, broken_definition, anonymous_broken, stray, unfit_in, broken_row, all_stored, told_in, stored_fault}
-use Rattle.stored_tables.proofs.Places.{no_place}
+use Rattle.stored_tables.specs.Verdict.{stored_fault}
+use Rattle.stored_tables.proofs.Faultless.{faultless, in_one}
 use Rattle.stored_tables.proofs.Clean.{clean}
 use Rattle.builder.specs.declared.builder.ExecutableDocumentBuilder.{ExecutableDocumentBuilder}
 use Rattle.builder.specs.Holding.{Held, taken_in}
@@ -43,25 +39,10 @@ same_fault : {a a' : Option StoredDefinition} {o o' f f' : List StoredDefinition
 same_fault {a} {a'} {o} {o'} {f} {f'} {r} {r'} p q s t =
     ap (λ x. stored_fault x o f r) p ∙ ap (λ x. stored_fault a' x f r) q ∙ ap (λ x. stored_fault a' o' x r) s ∙ ap (stored_fault a' o' f') t
 
-told_none : (told : ℕ → StoredFault) (place : Option ℕ) → told_in told place ≡ None → place ≡ None
-told_none told None is = refl
-told_none told (Some i) is = absurd (grind arith)
-
 -- tables without a fault have each row in one range
 in_one_range : (anonymous : Option StoredDefinition) (operations fragments : List StoredDefinition) (rows : List StoredRow)
     → stored_fault anonymous operations fragments rows ≡ None → EachInOneRange anonymous operations fragments rows
-in_one_range anonymous operations fragments rows none row low =
-    let ds = all_stored anonymous operations fragments in
-    let test = broken_row (map stored_view rows) ds in
-    let n = length rows in
-    let alone-fault : Option StoredFault = cond (anonymous_broken n anonymous) (Some InAnonymous) None in
-    let operations-fault = told_in InOperations (first_place (broken_definition (whole_as Operation) n operations) 0 (length operations)) in
-    let fragments-fault = told_in InFragments (first_place (broken_definition (whole_as Fragment) n fragments) 0 (length fragments)) in
-    let last = (or_else_none fragments-fault _ (or_else_none operations-fault _ (or_else_none alone-fault _ none).1).1).1 in
-    let fine : test row ≡ false =
-    ap test (omega arith) ∙ no_place test 0 n (told_none InRows (first_place test 0 n) last) row low
-    in
-    eqb-true _ 1 (not-false _ (or_parts (stray ds row) (unfit_in (map stored_view rows) ds row) fine).0)
+in_one_range anonymous operations fragments rows none = in_one anonymous operations fragments rows (faultless anonymous operations fragments rows none)
 
 -- so long a front is only there if the list is as long
 front_long : {X : Type 0} (n : ℕ) (xs : List X) → length (take n xs) ≡ n → n ≤ length xs

@@ -1,32 +1,28 @@
 -- Where tables have no fault and a sound index, their definitions have the shape that a walk relies on.
-use Rattle.std.proofs.Common.{◌≡◌, ℕ, zero, suc, ◌+◌, ◌<◌, ◌≤◌, ◌⊎◌, inl, inr, Bool, true, false, cond, eqb, ◌&&◌, List, [], ◌∷◌, map, length, get_or, count_by, Some, None, Option, sym, refl, ap, ◌∙◌, subst, eqb-true, leb-false, arith}
+use Rattle.std.proofs.Common.{◌≡◌, ℕ, zero, suc, ◌+◌, ◌<◌, ◌≤◌, ◌⊎◌, inl, inr, Bool, true, false, cond, ◌&&◌, List, [], ◌∷◌, map, length, get_or, count_by, Some, None, Option, sym, refl, ap, ◌∙◌, subst, leb-false, arith}
 use Rattle.std.specs.Option.{is_some}
-use Rattle.std.proofs.lemmas.Bool.{cases_lt, le-leb, lt-ltb, and_from, or_parts, not-false, false≢true, eq-eqb}
+use Rattle.std.proofs.lemmas.Bool.{cases_lt, le-leb, lt-ltb, and_from, or_parts, false≢true, eq-eqb}
 use Rattle.std.proofs.lemmas.List.{get_or-map, length-map}
 use Rattle.std.proofs.lemmas.List.Sums.{sum_by-cons}
 use Rattle.std.proofs.lemmas.Option.{get_or_from_slice_get, slice_get_within}
-use Rattle.refusal.proofs.Firsts.{or_else_none}
 use Rattle.layout.specs.declared.row.RowView.{RowView}
 use Rattle.layout.specs.declared.row.RowFault.TheVariants.{NameMissing, Broken, TooDeep}
 use Rattle.layout.specs.Places.{no_view, fault_in, own_fault, breaks}
-use Rattle.document.specs.declared.kinds.DefinitionKind.TheVariants.{Operation, Fragment}
 use Rattle.selection_rules.specs.Stored.{stored_view}
 use Rattle.ordered_index.specs.Keys.{same_name, name_hash}
 use Rattle.ordered_index.specs.Sound.{Sound}
 use Rattle.stored_tables.specs.declared.definition.StoredDefinition.{StoredDefinition}
 use Rattle.stored_tables.specs.declared.stored.StoredDocument.{StoredDocument}
-use Rattle.stored_tables.specs.declared.fault.StoredFault.{StoredFault}
-use Rattle.stored_tables.specs.declared.fault.StoredFault.TheVariants.{InAnonymous, InOperations, InFragments, InRows}
 use Rattle.stored_tables.specs.Layout.{name_of}
-use Rattle.stored_tables.specs.Verdict.{definition_at, no_stored_definition, no_stored_row, whole_as, anonymous_broken, holds, unfit_in, stray, broken_row, alone, all_stored, told_in}
+use Rattle.stored_tables.specs.Verdict.{definition_at, no_stored_definition, no_stored_row, anonymous_broken, holds, unfit_in, alone, all_stored}
 use Rattle.stored_tables.specs.Ranges.{InOrder}
-use Rattle.stored_tables.proofs.Places.{no_place}
-use Rattle.stored_tables.proofs.Following.{clean_in_order, held_in_all, in_place}
+use Rattle.stored_tables.proofs.Following.{held_in_all, in_place}
+use Rattle.stored_tables.proofs.Faultless.{Faultless, faultless, in_one, fitting}
 use Rattle.finished_tables.specs.declared.indexed.IndexedDocument.{IndexedDocument}
 use Rattle.walking.specs.declared.judge.Lengths.{Lengths}
 use Rattle.finished_rules.specs.ReachesInTables.{row_at, fragment_at, Beneath}
 use Rattle.walking.specs.Tables.{InShape, Walkable}
-use Rattle.walking.specs.Refusals.{fault_of, operation_at, Accepted}
+use Rattle.walking.specs.Refusals.{operation_at, Accepted}
 
 -- ranges that follow one another
 
@@ -79,9 +75,9 @@ rest_false true b is none = none
 rest_false false b is none = absurd (false≢true is)
 
 -- a row in some range fits it
-fitting : (views : List RowView) (p : ℕ) (ds : List StoredDefinition) → 1 ≤ count_by (holds p) ds → unfit_in views ds p ≡ false → (s : StoredDefinition) × (is_some (fault_in views s.row.first s.row.end 32 p) ≡ false)
-fitting views p [] some fit = absurd (omega arith)
-fitting views p (d ∷ ds) some fit = go (fitting views p ds) (holds p d) refl
+fits_one : (views : List RowView) (p : ℕ) (ds : List StoredDefinition) → 1 ≤ count_by (holds p) ds → unfit_in views ds p ≡ false → (s : StoredDefinition) × (is_some (fault_in views s.row.first s.row.end 32 p) ≡ false)
+fits_one views p [] some fit = absurd (omega arith)
+fits_one views p (d ∷ ds) some fit = go (fits_one views p ds) (holds p d) refl
   where
     go : (1 ≤ count_by (holds p) ds → unfit_in views ds p ≡ false → (s : StoredDefinition) × (is_some (fault_in views s.row.first s.row.end 32 p) ≡ false)) → (b : Bool) → holds p d ≡ b
         → (s : StoredDefinition) × (is_some (fault_in views s.row.first s.row.end 32 p) ≡ false)
@@ -104,50 +100,13 @@ sound_row view k bound deep none =
     let whole = breaks_not (breaks view k bound) view.unnamed deep none in
     leb-false view.end k (or_parts _ _ (or_parts _ _ whole).1).0
 
-no_fault_told : (b : Bool) (f : StoredFault) → cond b (Some f) None ≡ None → b ≡ false
-no_fault_told true f is = absurd (grind arith)
-no_fault_told false f is = refl
-
-no_place_told : (told : ℕ → StoredFault) (o : Option ℕ) → told_in told o ≡ None → o ≡ None
-no_place_told told None is = refl
-no_place_told told (Some i) is = absurd (grind arith)
-
--- no table has a fault
-record Faultless (d : StoredDocument) : Type 0 where
-  anonymous : anonymous_broken (length d.rows.now) d.anonymous ≡ false
-  operations : InOrder (length d.rows.now) 0 d.operations.now
-  fragments : InOrder (length d.rows.now) 0 d.fragments.now
-  each : (p : ℕ) → p < length d.rows.now → broken_row (map stored_view d.rows.now) (all_stored d.anonymous d.operations.now d.fragments.now) p ≡ false
-
-faultless : (d : StoredDocument) → fault_of d ≡ None → Faultless d
-faultless d clean =
-    let a = or_else_none _ _ clean in
-    let b = or_else_none _ _ a.1 in
-    let c = or_else_none _ _ b.1 in
-    let rows = no_place_told InRows _ c.1 in
-    record {
-      anonymous = no_fault_told _ InAnonymous a.0;
-      operations = clean_in_order (whole_as Operation) (length d.rows.now) d.operations.now (no_place_told InOperations _ b.0);
-      fragments = clean_in_order (whole_as Fragment) (length d.rows.now) d.fragments.now (no_place_told InFragments _ c.0);
-      each =
-          λ p low.
-          let test = broken_row (map stored_view d.rows.now) (all_stored d.anonymous d.operations.now d.fragments.now) in
-          ap test (omega arith) ∙ no_place test 0 (length d.rows.now) rows p low;
-    }
-
-module _ (d : StoredDocument) (whole : Faultless d) where
-  -- each row is in one range
-  in_one : (p : ℕ) → p < length d.rows.now → count_by (holds p) (all_stored d.anonymous d.operations.now d.fragments.now) ≡ 1
-  in_one p low =
-      let ds = all_stored d.anonymous d.operations.now d.fragments.now in
-      eqb-true (count_by (holds p) ds) 1 (not-false (eqb (count_by (holds p) ds) 1) (or_parts (stray ds p) (unfit_in (map stored_view d.rows.now) ds p) (whole.each p low)).0)
-
+module _ (d : StoredDocument) (whole : Faultless d.anonymous d.operations.now d.fragments.now d.rows.now) where
   row_ahead : (p : ℕ) → p < length d.rows.now → p < (row_at d p).selection.end
   row_ahead p low =
       let views = map stored_view d.rows.now in
-      let one = in_one p low in
+      let one = in_one d.anonymous d.operations.now d.fragments.now d.rows.now whole p low in
       let ds = all_stored d.anonymous d.operations.now d.fragments.now in
-      let fits = fitting views p ds (omega arith) (or_parts (stray ds p) (unfit_in views ds p) (whole.each p low)).1 in
+      let fits = fits_one views p ds (omega arith) (fitting d.anonymous d.operations.now d.fragments.now d.rows.now whole p low) in
       let end = sound_row (get_or views p no_view) p _ _ fits.1 in
       let is = ap (λ (v : RowView). v.end) (get_or-map stored_view d.rows.now p no_stored_row no_view low) in
       omega arith
@@ -203,14 +162,14 @@ module _ (d : StoredDocument) (whole : Faultless d) where
       let own = placed.1 p b in
       let high = placed.0 in
       let behind = b.1 in
-      let one = in_one p (omega arith) in
+      let one = in_one d.anonymous d.operations.now d.fragments.now d.rows.now whole p (omega arith) in
       let other = counts_one p d.fragments.now f low (held (fragment_at d f) p at) in
       let sum = held_in_all p d.anonymous d.operations.now d.fragments.now _ _ _ refl refl refl in
       omega arith
 
 pub walkable : (d : IndexedDocument) (operation : ℕ) (lent : Lengths) (s : StoredDefinition) → Accepted d operation lent s → Walkable d.stored s
 walkable d operation lent s ok =
-    let whole = faultless d.stored ok.clean in
+    let whole = faultless d.stored.anonymous d.stored.operations.now d.stored.fragments.now d.stored.rows.now ok.clean in
     record {
       shape = in_shape d.stored whole d.fragment_slots.now ok.indexed.fragments;
       within = (operation_placed d.stored whole operation s ok.there).0;
