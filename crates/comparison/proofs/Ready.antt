@@ -12,7 +12,7 @@ use Rattle.layout.proofs.Forests.{lawful}
 use Rattle.selection_rules.specs.declared.stored.StoredRow.{StoredRow}
 use Rattle.selection_rules.specs.Stored.{stored_selections, stored_rules, stored_view}
 use Rattle.stored_tables.specs.declared.definition.StoredDefinition.{StoredDefinition}
-use Rattle.stored_tables.specs.Verdict.{no_stored_row, unfit, alone, all_stored, stored_fault}
+use Rattle.stored_tables.specs.Verdict.{no_stored_row, unfit, alone, all_stored, stored_fault, fault_of}
 use Rattle.stored_tables.specs.Ranges.{Placed, InOrder}
 use Rattle.stored_tables.proofs.Places.{place_none, place_of}
 use Rattle.stored_tables.proofs.Following.{in_place}
@@ -20,7 +20,6 @@ use Rattle.stored_tables.proofs.Misfits.{unfit_places}
 use Rattle.stored_tables.proofs.Faultless.{Faultless, faultless, fitting}
 use Rattle.finished_tables.specs.declared.indexed.IndexedDocument.{IndexedDocument}
 use Rattle.finished_tables.specs.Indexes.{HasIndexes}
-use Rattle.comparison.specs.Comparing.{fault_of}
 use Rattle.comparison.specs.Ranged.{RangedIn, RangedIf, ReadyDocument}
 
 no_misfit_there : (m : Option Misfit) → place_of m ≡ None → m ≡ None
@@ -78,7 +77,7 @@ ranged_anonymous (Some d) operations fragments rows clean =
     (Contains-append_right operations (fragments ++ d ∷ []) d (Contains-append_right fragments (d ∷ []) d (0, omega arith, refl)))
     (in_place 0 (length rows) d (or_parts _ _ (whole (Some d) operations fragments rows clean).anonymous).1).placed
 
-pub ready : (d : IndexedDocument) → fault_of d ≡ None → HasIndexes d → ReadyDocument d
+pub ready : (d : IndexedDocument) → fault_of d.stored ≡ None → HasIndexes d → ReadyDocument d
 ready d clean indexes =
     let s = d.stored in
     record {

@@ -11,6 +11,7 @@ use Rattle.document.specs.declared.kinds.DefinitionKind.TheVariants.{Operation, 
 use Rattle.selection_rules.specs.declared.stored.StoredRow.{StoredRow}
 use Rattle.selection_rules.specs.Stored.{stored_view}
 use Rattle.stored_tables.specs.declared.definition.StoredDefinition.{StoredDefinition}
+use Rattle.stored_tables.specs.declared.stored.StoredDocument.{StoredDocument}
 use Rattle.stored_tables.specs.declared.fault.StoredFault.{StoredFault}
 use Rattle.stored_tables.specs.declared.fault.StoredFault.TheVariants.{InAnonymous, InOperations, InFragments, InRows}
 use Rattle.stored_tables.specs.Layout.{stored_head}
@@ -117,6 +118,10 @@ stored_fault anonymous operations fragments rows =
     (or_else (told_in InOperations (first_place (broken_definition (whole_as Operation) (length rows) operations) 0 (length operations)))
     (or_else (told_in InFragments (first_place (broken_definition (whole_as Fragment) (length rows) fragments) 0 (length fragments)))
     (told_in InRows (first_place (broken_row (map stored_view rows) (all_stored anonymous operations fragments)) 0 (length rows)))))
+
+-- the first fault of what is stored
+abbrev pub fault_of : StoredDocument → Option StoredFault
+fault_of d = stored_fault d.anonymous d.operations.now d.fragments.now d.rows.now
 
 -- the place, plus 1, that a fault tells, or 0
 abbrev pub row_of : StoredFault → ℕ
