@@ -1,5 +1,5 @@
 -- The first fault of stored definitions and rows that are handed back.
-use Rattle.std.specs.Prelude.{ℕ, zero, suc, ◌+◌, Bool, false, cond, not, ◌&&◌, ◌||◌, List, [], ◌∷◌, ◌++◌, map, length, take, is_some, count_by, Some, None, Option, ◌==◌, nat_le, nat_lt, slice_index_or}
+use Rattle.std.specs.Prelude.{ℕ, zero, suc, ◌+◌, ◌-◌, ◌^◌, min, Bool, false, cond, not, ◌&&◌, ◌||◌, List, [], ◌∷◌, ◌++◌, map, length, take, is_some, count_by, Some, None, Option, ◌==◌, nat_le, nat_lt, slice_index_or}
 use Rattle.std.specs.List.{list_any}
 use Rattle.refusal.specs.Firsts.{or_else}
 use Rattle.layout.specs.declared.row.RowView.{RowView}
@@ -129,3 +129,7 @@ row_of InAnonymous = 0
 row_of (InOperations row) = row
 row_of (InFragments row) = row
 row_of (InRows row) = row
+
+-- the same as a refusal tells it: one past the numbers of 32 bits as the greatest of them
+abbrev pub row_number : StoredFault → ℕ
+row_number fault = min (row_of fault) (2 ^ 32 - 1)
