@@ -126,12 +126,12 @@ length_step : (b x : Bool) (d : StoredDefinition) (rest : List StoredDefinition)
 length_step true x d rest more named is = let one : cond {A = ℕ} x 1 0 ≡ 1 = ap (λ y. cond y 1 0) (named refl) in omega (arith, one)
 length_step false x d rest more named is = omega arith
 
-anonymous_length : (s : ℕ) (ks : List Kept) → length (those_of anonymous_role s ks) ≡ kept_named anonymous_role 0 ks
+pub anonymous_length : (s : ℕ) (ks : List Kept) → length (those_of anonymous_role s ks) ≡ kept_named anonymous_role 0 ks
 anonymous_length s [] = refl
 anonymous_length s (k ∷ ks) =
     length_step (anonymous_role (role_of k.head)) (k.head.name == 0) (laid_out s k) _ _ (λ is. (anonymous_parts _ _ _ is).1) (anonymous_length (s + size k.rows) ks)
 
-alone_latest : (ds : List StoredDefinition) → length ds ≤ 1 → alone (latest None ds) ≡ ds
+pub alone_latest : (ds : List StoredDefinition) → length ds ≤ 1 → alone (latest None ds) ≡ ds
 alone_latest [] few = refl
 alone_latest (d ∷ []) few = refl
 alone_latest (d ∷ e ∷ ds) few = absurd (omega arith)
