@@ -30,14 +30,11 @@ use Rattle.builder.specs.Storing.{Indexed}
 use Rattle.builder.specs.Space.{Space}
 use Rattle.builder.specs.Adding.{held_in, too_short, stored_fault_in, IsIndexed}
 use Rattle.builder.specs.Certificate.{IsFresh, Within, Stands, EachInOneRange, called}
+use Rattle.builder.proofs.Judging.{same_stored}
 use Rattle.builder.proofs.Going.{nothing_in}
 use Rattle.builder.proofs.Sounds.{sound_document}
 use Rattle.builder.proofs.Readings.{counted, reads}
 use Rattle.builder.proofs.Growing.{restarted, again, go_on, within_after}
-
-same_fault : {a a' : Option StoredDefinition} {o o' f f' : List StoredDefinition} {r r' : List StoredRow} → a ≡ a' → o ≡ o' → f ≡ f' → r ≡ r' → stored_fault a o f r ≡ stored_fault a' o' f' r'
-same_fault {a} {a'} {o} {o'} {f} {f'} {r} {r'} p q s t =
-    ap (λ x. stored_fault x o f r) p ∙ ap (λ x. stored_fault a' x f r) q ∙ ap (λ x. stored_fault a' o' x r) s ∙ ap (stored_fault a' o' f') t
 
 -- tables without a fault have each row in one range
 in_one_range : (anonymous : Option StoredDefinition) (operations fragments : List StoredDefinition) (rows : List StoredRow)
@@ -53,7 +50,7 @@ module _ {S : Type 0} (meaning : S → Meaning) (m : Meaning) where
     no_stored_fault : stored_fault_in b.progress t ≡ None
     no_stored_fault =
         let r = reads meaning m calls b t w in
-        same_fault r.anonymous r.operations r.fragments r.rows ∙ clean (kept m calls) (kept_is_storable m (accepted calls) w.sound)
+        same_stored _ (sym r.anonymous) (sym r.operations) (sym r.fragments) (sym r.rows) (clean (kept m calls) (kept_is_storable m (accepted calls) w.sound))
 
     -- the tables are those that the builder filled
     pub never_stale : (too_short b.progress t ≡ false) × (stored_fault_in b.progress t ≡ None) × IsIndexed b.progress t
