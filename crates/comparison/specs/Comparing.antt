@@ -1,5 +1,5 @@
 -- Comparing two documents: which refusal comes first, and the answer.
-use Rattle.std.specs.Prelude.{◌≡◌, Bool, Decides, Some, None, Ok, Err, Option, Result}
+use Rattle.std.specs.Prelude.{◌≡◌, Bool, Decides, Some, None, Ok, Err, Result}
 use Rattle.stored_tables.specs.declared.fault.StoredFault.{StoredFault}
 use Rattle.stored_tables.specs.Verdict.{fault_of}
 use Rattle.finished_tables.specs.declared.indexed.IndexedDocument.{IndexedDocument}
