@@ -1,8 +1,8 @@
 -- What the certificate of a list of calls says of a builder and its tables; and how the list begins and grows.
-use Rattle.std.proofs.Common.{◌≡◌, ◌↔◌, ℕ, ◌≤◌, Bool, true, false, cond, List, [], ◌∷◌, ◌++◌, map, length, take, Some, None, Option, sym, refl, ap, ◌∙◌, subst, arith}
+use Rattle.std.proofs.Common.{◌≡◌, ◌↔◌, ℕ, ◌≤◌, Bool, true, false, List, [], ◌∷◌, ◌++◌, length, take, None, Option, sym, ap, ◌∙◌, subst, arith}
 use Rattle.std.specs.List.{AllByRecursion}
 use Rattle.std.proofs.ByRecursion.{All-append}
-use Rattle.std.proofs.lemmas.Bool.{le-ltb, or_from, or_parts, not-false, eqb-true}
+use Rattle.std.proofs.lemmas.Bool.{le-ltb, or_from}
 use Rattle.std.proofs.lemmas.List.{append-nil, length-take, nil_from_length}
 use Rattle.document.specs.declared.rows.DefinitionRow.{DefinitionRow}
 use Rattle.document.specs.declared.rows.SelectionRow.{SelectionRow}
@@ -10,7 +10,6 @@ use Rattle.document.specs.Document.{Definition, IsDocument}
 use Rattle.schema.specs.Meaning.{Meaning, Closed}
 use Rattle.schema.specs.Law.{Lawful}
 use Rattle.selection_rules.specs.declared.stored.StoredRow.{StoredRow}
-use Rattle.selection_rules.specs.Stored.{stored_view}
 use Rattle.building_rules.specs.Definitions.{accepted_from}
 use Rattle.building_rules.specs.Rules.{Valid}
 use Rattle.building_rules.specs.Bounds.{needs_for}
