@@ -1,12 +1,13 @@
 -- Taking in the definitions of a document, one after the other: those that are left lead to what all lead to.
 use Rattle.std.proofs.Common.{◌≡◌, ℕ, zero, suc, ◌+◌, ◌<◌, ◌≤◌, Bool, List, [], ◌∷◌, length, get_or, drop, sym, refl, ap, ◌∙◌, subst, arith}
+use Rattle.std.proofs.ByRecursion.{All-get_or}
 use Rattle.std.proofs.lemmas.List.{drop_more, drop_all}
 use Rattle.layout.specs.Forest.{size}
 use Rattle.document.specs.declared.rows.DefinitionRow.{DefinitionRow}
 use Rattle.document.specs.declared.rows.SelectionRow.{SelectionRow}
 use Rattle.document.specs.declared.handed.sets.SelectionSet.{SelectionSet}
 use Rattle.document.specs.Rows.{Head, head_of, head_broken}
-use Rattle.document.specs.Document.{Definition, no_definition, definition_rows, KeepsRules, AllKeep, IsDocument}
+use Rattle.document.specs.Document.{Definition, no_definition, definition_rows, KeepsRules, IsDocument}
 use Rattle.document.specs.Sets.{no_definition_row, Holds}
 use Rattle.document.proofs.Sets.{rows_many}
 use Rattle.schema.specs.Meaning.{Meaning}
@@ -28,11 +29,6 @@ head_there : (s : ℕ) (docs : List Definition) (k : ℕ) → k < length docs �
 head_there s [] k low = absurd (omega arith)
 head_there s (d ∷ docs) zero low = refl
 head_there s (d ∷ docs) (suc k) low = head_there (s + size d.selected) docs k (omega arith)
-
-keeps_there : (docs : List Definition) (k : ℕ) → k < length docs → AllKeep docs → KeepsRules (get_or docs k no_definition)
-keeps_there [] k low keep = absurd (omega arith)
-keeps_there (d ∷ docs) zero low keep = keep.0
-keeps_there (d ∷ docs) (suc k) low keep = keeps_there docs k (omega arith) keep.1
 
 -- no definition changes nothing
 pub nothing_in : (m : Meaning) (h : Held) → taken_in m h [] ≡ h
@@ -84,7 +80,7 @@ module _ (m : Meaning) (definitions : List DefinitionRow) (rows : List Selection
 
     pub ready : (set : SelectionSet) → Holds rows set here.selected → Ready rows set this h
     ready set holds =
-        let keeps = keeps_there w.document place inside w.is.keep in
+        let keeps = All-get_or KeepsRules w.document place no_definition inside w.is.keep in
         record {
           whole = ap head_broken head_here ∙ keeps.whole;
           holds = holds;
