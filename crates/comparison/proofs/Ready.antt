@@ -1,6 +1,6 @@
 -- A document without a fault, whose indexes fit, has its tables in order: the rows in the range of each definition are those
 -- of a forest.
-use Rattle.std.proofs.Common.{◌≡◌, ℕ, zero, suc, ◌+◌, ◌<◌, Bool, false, List, [], ◌∷◌, ◌++◌, map, length, get_or, All, Some, None, Option, sym, refl, ap, ◌∙◌, ⊎_elim, arith}
+use Rattle.std.proofs.Common.{◌≡◌, ◌+◌, Bool, false, List, [], ◌∷◌, ◌++◌, map, length, get_or, All, Some, None, Option, sym, refl, ap, ◌∙◌, ⊎_elim, arith}
 use Rattle.std.specs.List.{Contains, list_any}
 use Rattle.std.proofs.lemmas.Bool.{cases_Bool, or_parts, false≢true}
 use Rattle.std.proofs.lemmas.List.Elements.{Contains-get_or, Contains-append_left, Contains-append_right}
@@ -13,9 +13,9 @@ use Rattle.selection_rules.specs.declared.stored.StoredRow.{StoredRow}
 use Rattle.selection_rules.specs.Stored.{stored_selections, stored_rules, stored_view}
 use Rattle.stored_tables.specs.declared.definition.StoredDefinition.{StoredDefinition}
 use Rattle.stored_tables.specs.Verdict.{no_stored_row, unfit, alone, all_stored, stored_fault, fault_of}
-use Rattle.stored_tables.specs.Ranges.{Placed, InOrder}
+use Rattle.stored_tables.specs.Ranges.{Placed}
 use Rattle.stored_tables.proofs.Places.{place_none, place_of}
-use Rattle.stored_tables.proofs.Following.{in_place}
+use Rattle.stored_tables.proofs.Following.{placed_at, in_place}
 use Rattle.stored_tables.proofs.Misfits.{unfit_places}
 use Rattle.stored_tables.proofs.Faultless.{Faultless, faultless, fitting}
 use Rattle.finished_tables.specs.declared.indexed.IndexedDocument.{IndexedDocument}
@@ -30,12 +30,6 @@ no_misfit_there (Some m) is = absurd (grind arith)
 none_passes : (p : StoredDefinition → Bool) (ds : List StoredDefinition) (d : StoredDefinition) → list_any p ds ≡ false → Contains ds d → p d ≡ false
 none_passes p ds d none here =
     ⊎_elim (λ is. absurd (false≢true (sym none ∙ list_any_at p ds here.0 d here.1 (ap p here.2 ∙ is)))) (λ is. is) (cases_Bool (p d))
-
--- ranges in order, one by one
-placed_at : (rows s : ℕ) (ds : List StoredDefinition) (i : ℕ) (d : StoredDefinition) → InOrder rows s ds → i < length ds → Placed rows (get_or ds i d)
-placed_at rows s [] i d order low = absurd (omega arith)
-placed_at rows s (e ∷ ds) zero d order low = order.1
-placed_at rows s (e ∷ ds) (suc i) d order low = placed_at rows e.row.end ds i d order.2 (omega arith)
 
 module _ (anonymous : Option StoredDefinition) (operations fragments : List StoredDefinition) (rows : List StoredRow) (clean : stored_fault anonymous operations fragments rows ≡ None) where
   abbrev views : List RowView

@@ -22,7 +22,7 @@ use Rattle.stored_tables.specs.Layout.{laid_out, rows_of, those_of, latest, oper
 use Rattle.stored_tables.specs.Verdict.{first_place, no_stored_definition, definition_at, misplaced, whole_as, anonymous_whole, broken_definition, anonymous_broken, holds, unfit, unfit_in, broken_row, alone, all_stored, told_in, stored_fault}
 use Rattle.stored_tables.specs.Ranges.{Placed, InOrder}
 use Rattle.stored_tables.proofs.Places.{place_none}
-use Rattle.stored_tables.proofs.Following.{end_from, before_is, later_end, held_in_all}
+use Rattle.stored_tables.proofs.Following.{counted_at, end_from, before_is, later_end, held_in_all}
 use Rattle.stored_tables.proofs.LaidOut.{RestIs, Good, all_good, all_in_order, none_unfit, counted_once}
 
 -- what a role says of the head
@@ -78,11 +78,6 @@ module _ (p : StoredDefinition → Bool) where
   abbrev one : StoredDefinition → ℕ
   one d = cond (p d) 1 0
 
-  counted_at : (ds : List StoredDefinition) (i : ℕ) → i < length ds → p (definition_at ds i) ≡ true → 1 ≤ count_by p ds
-  counted_at [] i low here = absurd (omega arith)
-  counted_at (d ∷ ds) zero low here = let c = sum_by-cons one d ds in let h : one d ≡ 1 = ap (λ b. cond b 1 0) here in omega (arith, c, h)
-  counted_at (d ∷ ds) (suc i) low here = let c = sum_by-cons one d ds in let later = counted_at ds i (omega arith) here in omega (arith, c, later)
-
   off : (b : Bool) (n : ℕ) → cond b 1 0 + n ≤ 1 → 1 ≤ n → b ≡ false
   off true n few some = absurd (omega arith)
   off false n few some = refl
@@ -93,7 +88,7 @@ module _ (p : StoredDefinition → Bool) where
   single (d ∷ ds) zero few low here = refl
   single (d ∷ ds) (suc i) few low here =
       let c = sum_by-cons one d ds in
-      let some = counted_at ds i (omega arith) here in
+      let some = counted_at p ds i (omega arith) here in
       or_from _ _ (off (p d) (count_by p ds) (omega (arith, c)) some) (single ds i (omega (arith, c)) (omega arith) here)
 
 abbrev named_as : ℕ → StoredDefinition → Bool

@@ -2,7 +2,7 @@
 use Rattle.std.proofs.Common.{◌≡◌, ℕ, ◌+◌, ◌-◌, ◌<◌, ◌≤◌, Bool, true, false, cond, ◌&&◌, ltb, leb, List, [], ◌∷◌, ◌++◌, map, length, drop, count_by, None, Option, sym, refl, ap, ◌∙◌, ⊎_elim, arith}
 use Rattle.std.specs.Option.{is_some}
 use Rattle.std.specs.List.{AllByRecursion}
-use Rattle.std.proofs.lemmas.Bool.{le-leb, leb-true, lt-ltb, ltb-true, and_parts, and_from, or_from, cases_lt}
+use Rattle.std.proofs.lemmas.Bool.{leb-true, ltb-true, and_parts, or_from, cases_lt}
 use Rattle.std.proofs.lemmas.List.{drop-drop, drop_at, length-append}
 use Rattle.std.proofs.lemmas.List.Sums.{sum_by-cons}
 use Rattle.refusal.proofs.Firsts.{no_fault}
@@ -22,7 +22,7 @@ use Rattle.stored_tables.specs.declared.definition.StoredDefinition.{StoredDefin
 use Rattle.stored_tables.specs.Layout.{stored_head, laid_out, rows_of, those_of}
 use Rattle.stored_tables.specs.Verdict.{no_stored_row, holds, unfit, unfit_in}
 use Rattle.stored_tables.specs.Ranges.{Placed, InOrder}
-use Rattle.stored_tables.proofs.Following.{held_before, none_hold, in_order_from}
+use Rattle.stored_tables.proofs.Following.{held_before, holds_inside, none_hold, in_order_from}
 
 -- the rows of `rows` from s on are those of ks, up to the end
 pub record RestIs (rows : List StoredRow) (s : ℕ) (ks : List Kept) : Type 0 where
@@ -148,7 +148,7 @@ counted_none rows row s ks at low =
     omega (arith, a, b, c)
 
 held_within : (row s : ℕ) (k : Kept) → s ≤ row → row < s + size k.rows → held row (laid_out s k) ≡ 1
-held_within row s k low high = ap (λ b. cond b 1 0) (and_from _ _ (le-leb _ _ low) (lt-ltb _ _ high))
+held_within row s k low high = ap (λ b. cond b 1 0) (holds_inside row (laid_out s k) low high)
 
 held_after : (row s : ℕ) (k : Kept) → s + size k.rows ≤ row → held row (laid_out s k) ≡ 0
 held_after row s k past = ap (λ b. cond b 1 0) (held_before row (laid_out s k) past)
