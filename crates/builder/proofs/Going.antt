@@ -1,13 +1,13 @@
 -- Taking in the definitions of a document, one after the other: those that are left lead to what all lead to.
-use Rattle.std.proofs.Common.{◌≡◌, ℕ, zero, suc, ◌+◌, ◌<◌, ◌≤◌, Bool, cond, List, [], ◌∷◌, length, get_or, drop, sym, refl, ap, ◌∙◌, subst, arith}
+use Rattle.std.proofs.Common.{◌≡◌, ℕ, zero, suc, ◌+◌, ◌<◌, ◌≤◌, Bool, List, [], ◌∷◌, length, get_or, drop, sym, refl, ap, ◌∙◌, subst, arith}
+use Rattle.std.proofs.ByRecursion.{All-get_or}
 use Rattle.std.proofs.lemmas.List.{drop_more, drop_all}
-use Rattle.std.proofs.lemmas.List.Sums.{sum_by-cons}
 use Rattle.layout.specs.Forest.{size}
 use Rattle.document.specs.declared.rows.DefinitionRow.{DefinitionRow}
 use Rattle.document.specs.declared.rows.SelectionRow.{SelectionRow}
 use Rattle.document.specs.declared.handed.sets.SelectionSet.{SelectionSet}
-use Rattle.document.specs.Rows.{Head, head_of, head_broken, is_fragment, named_operation}
-use Rattle.document.specs.Document.{Definition, no_definition, definition_rows, KeepsRules, AllKeep, IsDocument}
+use Rattle.document.specs.Rows.{Head, head_of, head_broken}
+use Rattle.document.specs.Document.{Definition, no_definition, definition_rows, KeepsRules, IsDocument}
 use Rattle.document.specs.Sets.{no_definition_row, Holds}
 use Rattle.document.proofs.Sets.{rows_many}
 use Rattle.schema.specs.Meaning.{Meaning}
@@ -22,38 +22,13 @@ use Rattle.builder.proofs.Puts.{put_nil}
 use Rattle.builder.proofs.Outputs.{same_output}
 use Rattle.builder.proofs.Kepts.{same_held}
 use Rattle.builder.proofs.States.{taken_two, one_taken}
-use Rattle.builder.proofs.Spaces.{roomy, fitting, space_left}
+use Rattle.builder.proofs.Spaces.{space_one, roomy, fitting, space_left}
 
 -- the head of a row is that of the definition that the row stands for
 head_there : (s : ℕ) (docs : List Definition) (k : ℕ) → k < length docs → head_of (get_or (definition_rows s docs) k no_definition_row) ≡ (get_or docs k no_definition).head
 head_there s [] k low = absurd (omega arith)
 head_there s (d ∷ docs) zero low = refl
 head_there s (d ∷ docs) (suc k) low = head_there (s + size d.selected) docs k (omega arith)
-
-keeps_there : (docs : List Definition) (k : ℕ) → k < length docs → AllKeep docs → KeepsRules (get_or docs k no_definition)
-keeps_there [] k low keep = absurd (omega arith)
-keeps_there (d ∷ docs) zero low keep = keep.0
-keeps_there (d ∷ docs) (suc k) low keep = keeps_there docs k (omega arith) keep.1
-
--- where there is space for all, there is for the first
-space_one : (h : Held) (d : Accepted) (ds : List Accepted) → Space h (needs_for (d ∷ ds)) → Space h (needs_for (d ∷ []))
-space_one h d ds space =
-    let some = sum_by-cons (λ x. cond (named_operation x.head) 1 0) d ds in
-    let one = sum_by-cons (λ x. cond (named_operation x.head) 1 0) d [] in
-    let some-fragments = sum_by-cons (λ x. cond (is_fragment x.head) 1 0) d ds in
-    let one-fragment = sum_by-cons (λ x. cond (is_fragment x.head) 1 0) d [] in
-    record {
-      operations_fit = omega (arith, space.operations_fit);
-      operations_few = omega (arith, space.operations_few);
-      fragments_fit = omega (arith, space.fragments_fit);
-      fragments_few = omega (arith, space.fragments_few);
-      rows_fit = omega (arith, space.rows_fit);
-      rows_few = omega (arith, space.rows_few);
-      errors_fit = omega (arith, space.errors_fit);
-      errors_few = omega (arith, space.errors_few);
-      keys_fit = omega (arith, space.keys_fit);
-      keys_few = omega (arith, space.keys_few);
-    }
 
 -- no definition changes nothing
 pub nothing_in : (m : Meaning) (h : Held) → taken_in m h [] ≡ h
@@ -105,7 +80,7 @@ module _ (m : Meaning) (definitions : List DefinitionRow) (rows : List Selection
 
     pub ready : (set : SelectionSet) → Holds rows set here.selected → Ready rows set this h
     ready set holds =
-        let keeps = keeps_there w.document place inside w.is.keep in
+        let keeps = All-get_or KeepsRules w.document place no_definition inside w.is.keep in
         record {
           whole = ap head_broken head_here ∙ keeps.whole;
           holds = holds;

@@ -3,7 +3,7 @@ use Rattle.std.proofs.Common.{◌≡◌, ◌+◌, false, List, ◌++◌, length,
 use Rattle.std.proofs.lemmas.List.{drop_at}
 use Rattle.schema.specs.Meaning.{Meaning}
 use Rattle.selection_rules.specs.Errors.{error_rows, keys_in}
-use Rattle.building_rules.specs.Definitions.{Accepted, State, kept_from, errors_from, kept_in, errors_in}
+use Rattle.building_rules.specs.Definitions.{Accepted, State, kept_from, errors_from, state_after, kept_in, errors_in}
 use Rattle.building_rules.specs.Bounds.{needs_for}
 use Rattle.building_rules.proofs.Fits.{builds_fit}
 use Rattle.stored_tables.specs.declared.definition.StoredDefinition.{StoredDefinition}
@@ -12,11 +12,10 @@ use Rattle.builder.specs.Filling.{put, output, filled_to}
 use Rattle.builder.specs.Holding.{Held, state_of, taken_in}
 use Rattle.builder.specs.Space.{Space}
 use Rattle.builder.specs.Certificate.{IsFresh, Within}
-use Rattle.builder.proofs.Puts.{length-put}
-use Rattle.builder.proofs.Outputs.{same_output, length_rows}
-use Rattle.builder.proofs.Kepts.{same_held, Fit, Room, many_rows, entered_count, entered_long}
+use Rattle.builder.proofs.Outputs.{same_output}
+use Rattle.builder.proofs.Kepts.{same_held, Fit, Room, entered_long}
 use Rattle.builder.proofs.States.{taken_two}
-use Rattle.builder.proofs.Spaces.{few_operations, few_fragments}
+use Rattle.builder.proofs.Spaces.{grown}
 use Rattle.builder.proofs.Readings.{fresh_state, from_front, counts}
 
 -- what is put twice at the front is put once
@@ -88,32 +87,16 @@ module _ (m : Meaning) (start h : Held) (ds : List Accepted) (is : IsFresh start
 pub within_after : (m : Meaning) (h : Held) (ds : List Accepted) → Space h (needs_for ds) → Within (taken_in m h ds)
 within_after m h ds space =
     let s = state_of h in
-    let n = h.output.filled.rows in
-    let k = h.output.filled.errors in
-    let q = h.output.filled.path_keys in
-    let ks = kept_from m s ds in
-    let es = errors_from m s ds in
-    let fits = builds_fit m s ds in
-    let many = many_rows n ks in
-    let listed = length_rows q es in
-    let rows-long = length-put h.output.rows n (rows_of n ks) (omega (arith, space.rows_fit, fits.rows)) in
-    let errors-long = length-put h.output.errors k (error_rows q es) (omega (arith, space.errors_fit, fits.errors)) in
-    let keys-long = length-put h.output.path_keys q (keys_in es) (omega (arith, space.keys_fit, fits.path_keys)) in
-    let a = few_operations n ks in
-    let b = few_fragments n ks in
-    let c = entered_count h.operations (operations_of n ks) in
-    let e = entered_count h.fragments (fragments_of n ks) in
-    let f = entered_long h.operations (operations_of n ks) in
-    let g = entered_long h.fragments (fragments_of n ks) in
+    let g = grown h (kept_from m s ds) (errors_from m s ds) (state_after m s ds).multiple (needs_for ds) space (builds_fit m s ds) in
     record {
-      operations_fit = omega (arith, space.operations_fit, fits.operations);
-      operations_few = omega (arith, space.operations_few, fits.operations);
-      fragments_fit = omega (arith, space.fragments_fit, fits.fragments);
-      fragments_few = omega (arith, space.fragments_few, fits.fragments);
-      rows_fit = omega (arith, space.rows_fit, fits.rows);
-      rows_few = omega (arith, space.rows_few, fits.rows);
-      errors_fit = omega (arith, space.errors_fit, fits.errors);
-      errors_few = omega (arith, space.errors_few, fits.errors);
-      keys_fit = omega (arith, space.keys_fit, fits.path_keys);
-      keys_few = omega (arith, space.keys_few, fits.path_keys);
+      operations_fit = omega (arith, space.operations_fit, g.operations, g.operations_long);
+      operations_few = omega (arith, space.operations_few, g.operations);
+      fragments_fit = omega (arith, space.fragments_fit, g.fragments, g.fragments_long);
+      fragments_few = omega (arith, space.fragments_few, g.fragments);
+      rows_fit = omega (arith, space.rows_fit, g.rows, g.rows_long);
+      rows_few = omega (arith, space.rows_few, g.rows);
+      errors_fit = omega (arith, space.errors_fit, g.errors, g.errors_long);
+      errors_few = omega (arith, space.errors_few, g.errors);
+      keys_fit = omega (arith, space.keys_fit, g.path_keys, g.keys_long);
+      keys_few = omega (arith, space.keys_few, g.path_keys);
     }

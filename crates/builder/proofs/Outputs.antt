@@ -3,7 +3,6 @@ use Rattle.std.proofs.Common.{◌≡◌, ℕ, suc, ◌+◌, ◌<◌, ◌≤◌, 
 use Rattle.std.proofs.lemmas.List.{append-nil}
 use Rattle.layout.specs.Forest.{Forest, none, row, size, flatten}
 use Rattle.layout.proofs.Tables.{length-flatten}
-use Rattle.document.specs.Sets.{no_row}
 use Rattle.selection_rules.specs.declared.stored.StoredRow.{StoredRow}
 use Rattle.selection_rules.specs.declared.error.BuildError.{BuildError}
 use Rattle.selection_rules.specs.Stored.{Stored, stored_row, stored_of}
@@ -89,9 +88,6 @@ row_then o a below after es fs rows_fit errors_fit keys_fit =
     (omega arith)
     (omega (arith, length-append es fs))
     (omega (arith, ap length (keys_join es fs), length-append (keys_in es) (keys_in fs)))
-
-abbrev pub no_stored_row : StoredRow
-no_stored_row = record { selection = no_row; place = 0; set_type = 0 }
 
 -- a stored row with another end
 abbrev pub ended : StoredRow → ℕ → StoredRow

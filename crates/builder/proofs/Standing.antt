@@ -1,17 +1,15 @@
 -- What the certificate of a list of calls says of a builder and its tables; and how the list begins and grows.
-use Rattle.std.proofs.Common.{◌≡◌, ◌↔◌, ℕ, ◌≤◌, Bool, true, false, cond, List, [], ◌∷◌, ◌++◌, map, length, take, Some, None, Option, sym, refl, ap, ◌∙◌, subst, arith}
+use Rattle.std.proofs.Common.{◌≡◌, ◌↔◌, ℕ, ◌≤◌, Bool, true, false, List, [], ◌∷◌, ◌++◌, length, take, None, Option, sym, ap, ◌∙◌, subst, arith}
 use Rattle.std.specs.List.{AllByRecursion}
-use Rattle.std.proofs.lemmas.Bool.{le-ltb, or_from, or_parts, not-false, eqb-true}
+use Rattle.std.proofs.ByRecursion.{All-append}
+use Rattle.std.proofs.lemmas.Bool.{le-ltb, or_from}
 use Rattle.std.proofs.lemmas.List.{append-nil, length-take, nil_from_length}
-use Rattle.refusal.proofs.Firsts.{or_else_none}
-use Rattle.document.specs.declared.kinds.DefinitionKind.TheVariants.{Operation, Fragment}
 use Rattle.document.specs.declared.rows.DefinitionRow.{DefinitionRow}
 use Rattle.document.specs.declared.rows.SelectionRow.{SelectionRow}
 use Rattle.document.specs.Document.{Definition, IsDocument}
 use Rattle.schema.specs.Meaning.{Meaning, Closed}
 use Rattle.schema.specs.Law.{Lawful}
 use Rattle.selection_rules.specs.declared.stored.StoredRow.{StoredRow}
-use Rattle.selection_rules.specs.Stored.{stored_view}
 use Rattle.building_rules.specs.Definitions.{accepted_from}
 use Rattle.building_rules.specs.Rules.{Valid}
 use Rattle.building_rules.specs.Bounds.{needs_for}
@@ -19,13 +17,11 @@ use Rattle.building_rules.specs.Calls.{Call, document_in, accepted, kept, listed
 use Rattle.building_rules.specs.Storable.{Sound}
 use Rattle.building_rules.proofs.Histories.{documents_are_read, histories_grow}
 use Rattle.building_rules.proofs.Joined.{no_errors_exactly_when_valid}
-use Rattle.building_rules.proofs.Storable.{all_join, kept_is_storable}
+use Rattle.building_rules.proofs.Storable.{kept_is_storable}
 use Rattle.stored_tables.specs.declared.definition.StoredDefinition.{StoredDefinition}
-use Rattle.stored_tables.specs.declared.fault.StoredFault.{StoredFault}
-use Rattle.stored_tables.specs.declared.fault.StoredFault.TheVariants.{InAnonymous, InOperations, InFragments, InRows}
 use Rattle.stored_tables.specs.declared.tables.Tables.{Tables}
-use Rattle.stored_tables.specs.Verdict.{first_place, whole_as, broken_definition, anonymous_broken, stray, unfit_in, broken_row, all_stored, told_in, stored_fault}
-use Rattle.stored_tables.proofs.Places.{no_place}
+use Rattle.stored_tables.specs.Verdict.{stored_fault}
+use Rattle.stored_tables.proofs.Faultless.{faultless, in_one}
 use Rattle.stored_tables.proofs.Clean.{clean}
 use Rattle.builder.specs.declared.builder.ExecutableDocumentBuilder.{ExecutableDocumentBuilder}
 use Rattle.builder.specs.Holding.{Held, taken_in}
@@ -33,34 +29,16 @@ use Rattle.builder.specs.Storing.{Indexed}
 use Rattle.builder.specs.Space.{Space}
 use Rattle.builder.specs.Adding.{held_in, too_short, stored_fault_in, IsIndexed}
 use Rattle.builder.specs.Certificate.{IsFresh, Within, Stands, EachInOneRange, called}
+use Rattle.builder.proofs.Judging.{same_stored}
 use Rattle.builder.proofs.Going.{nothing_in}
 use Rattle.builder.proofs.Sounds.{sound_document}
 use Rattle.builder.proofs.Readings.{counted, reads}
 use Rattle.builder.proofs.Growing.{restarted, again, go_on, within_after}
 
-same_fault : {a a' : Option StoredDefinition} {o o' f f' : List StoredDefinition} {r r' : List StoredRow} → a ≡ a' → o ≡ o' → f ≡ f' → r ≡ r' → stored_fault a o f r ≡ stored_fault a' o' f' r'
-same_fault {a} {a'} {o} {o'} {f} {f'} {r} {r'} p q s t =
-    ap (λ x. stored_fault x o f r) p ∙ ap (λ x. stored_fault a' x f r) q ∙ ap (λ x. stored_fault a' o' x r) s ∙ ap (stored_fault a' o' f') t
-
-told_none : (told : ℕ → StoredFault) (place : Option ℕ) → told_in told place ≡ None → place ≡ None
-told_none told None is = refl
-told_none told (Some i) is = absurd (grind arith)
-
 -- tables without a fault have each row in one range
 in_one_range : (anonymous : Option StoredDefinition) (operations fragments : List StoredDefinition) (rows : List StoredRow)
     → stored_fault anonymous operations fragments rows ≡ None → EachInOneRange anonymous operations fragments rows
-in_one_range anonymous operations fragments rows none row low =
-    let ds = all_stored anonymous operations fragments in
-    let test = broken_row (map stored_view rows) ds in
-    let n = length rows in
-    let alone-fault : Option StoredFault = cond (anonymous_broken n anonymous) (Some InAnonymous) None in
-    let operations-fault = told_in InOperations (first_place (broken_definition (whole_as Operation) n operations) 0 (length operations)) in
-    let fragments-fault = told_in InFragments (first_place (broken_definition (whole_as Fragment) n fragments) 0 (length fragments)) in
-    let last = (or_else_none fragments-fault _ (or_else_none operations-fault _ (or_else_none alone-fault _ none).1).1).1 in
-    let fine : test row ≡ false =
-    ap test (omega arith) ∙ no_place test 0 n (told_none InRows (first_place test 0 n) last) row low
-    in
-    eqb-true _ 1 (not-false _ (or_parts (stray ds row) (unfit_in (map stored_view rows) ds row) fine).0)
+in_one_range anonymous operations fragments rows none = in_one anonymous operations fragments rows (faultless anonymous operations fragments rows none)
 
 -- so long a front is only there if the list is as long
 front_long : {X : Type 0} (n : ℕ) (xs : List X) → length (take n xs) ≡ n → n ≤ length xs
@@ -71,7 +49,7 @@ module _ {S : Type 0} (meaning : S → Meaning) (m : Meaning) where
     no_stored_fault : stored_fault_in b.progress t ≡ None
     no_stored_fault =
         let r = reads meaning m calls b t w in
-        same_fault r.anonymous r.operations r.fragments r.rows ∙ clean (kept m calls) (kept_is_storable m (accepted calls) w.sound)
+        same_stored _ (sym r.anonymous) (sym r.operations) (sym r.fragments) (sym r.rows) (clean (kept m calls) (kept_is_storable m (accepted calls) w.sound))
 
     -- the tables are those that the builder filled
     pub never_stale : (too_short b.progress t ≡ false) × (stored_fault_in b.progress t ≡ None) × IsIndexed b.progress t
@@ -118,7 +96,7 @@ module _ {S : Type 0} (meaning : S → Meaning) (m : Meaning) where
             start = restarted w.start h;
             fresh = again m w.start h ds w.fresh w.holds;
             holds = taken ∙ go_on m w.start h ds w.fresh w.holds w.within new ∙ ap (taken_in m (restarted w.start h)) (sym grown);
-            sound = subst (AllByRecursion Sound) (sym grown) (all_join Sound ds new w.sound (sound_document strict d is.keep));
+            sound = subst (AllByRecursion Sound) (sym grown) (All-append Sound ds new w.sound (sound_document strict d is.keep));
             within = subst Within (sym taken) (within_after m h new space);
             operations = operations;
             fragments = fragments;

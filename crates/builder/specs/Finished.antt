@@ -9,7 +9,7 @@ use Rattle.building_rules.specs.Calls.{Call, accepted, kept}
 use Rattle.building_rules.specs.Storable.{Sound as SoundDefinition}
 use Rattle.stored_tables.specs.declared.tables.Tables.{Tables}
 use Rattle.stored_tables.specs.Layout.{name_of, rows_of, operations_of, fragments_of, anonymous_of}
-use Rattle.stored_tables.specs.Verdict.{stored_fault}
+use Rattle.stored_tables.specs.Verdict.{fault_of}
 use Rattle.finished_tables.specs.declared.indexed.IndexedDocument.{IndexedDocument}
 use Rattle.finished_tables.specs.Indexes.{HasIndexes}
 use Rattle.finished_rules.specs.Tables.{HoldsKept}
@@ -47,5 +47,5 @@ pub record Finished {S : Type 0} (meaning : S → Meaning) (m : Meaning) (calls 
 -- tables that hold what is kept, without a fault, and with their indexes
 pub record IsFinished (ks : List Kept) (x : IndexedDocument) : Type 0 where
   pub holds : HoldsKept ks x.stored
-  pub clean : stored_fault x.stored.anonymous x.stored.operations.now x.stored.fragments.now x.stored.rows.now ≡ None
+  pub clean : fault_of x.stored ≡ None
   pub indexes : HasIndexes x

@@ -17,10 +17,10 @@ ghost use Rattle.builder.specs.Lent.{SameTables, SameLengths, SameFurtherSlots, 
 use crate::executable::ExecutableDocument;
 use crate::fault::BuilderFault;
 use crate::filled::Filled;
-use crate::limits::INDEX_SLOTS;
 use crate::progress::Progress;
 use crate::take::take_document;
 use document::Document;
+use finished_tables::INDEX_SLOTS;
 use ordered_index::{empty, in_use};
 use schema::Schema;
 use selection_rules::{BuildError, SelectionPath};

@@ -4,8 +4,7 @@ ghost use Rattle.schema.specs.Meaning.{Meaning};
 ghost use Rattle.building_rules.specs.Calls.{Call, kept};
 ghost use Rattle.builder.specs.Finished.{Finished, finished_short, ReadFrom, IsFinished};
 
-use crate::limits::INDEX_SLOTS;
-use finished_tables::IndexedDocument;
+use finished_tables::{INDEX_SLOTS, IndexedDocument};
 use ordered_index::in_use;
 use schema::Schema;
 use stored_tables::{StoredDefinition, StoredDocument, Tables};

@@ -1,6 +1,6 @@
 // Why a call of the builder is refused, in words and as a refusal.
 ghost use Rattle.std.specs.Prelude.{◌≡◌};
-ghost use Rattle.builder.specs.Refusals.{builder_refusal, row_number};
+ghost use Rattle.builder.specs.Refusals.{builder_refusal};
 ghost use Rattle.builder.specs.declared.fault.BuilderFault.TheVariants as fault;
 
 use document::DocumentFault;
@@ -45,20 +45,13 @@ impl From<StoredFault> for BuilderFault {
     }
 }
 
-// A row as a refusal tells it: one past the numbers of 32 bits as the greatest of them.
-fn row_number(row: usize) -> u32
-    ensures { result ≡ row_number row }
-{
-    row.min(u32::MAX as usize) as u32
-}
-
 impl From<BuilderFault> for Refusal {
     ghost from_gives = { λ fault r. r ≡ builder_refusal fault };
 
     fn from(fault: BuilderFault) -> Refusal {
         let (reason, row) = match fault {
             BuilderFault::Document(fault) => return Refusal::from(fault),
-            BuilderFault::Stored(fault) => (Reason::StoredBroken, row_number(fault.row())),
+            BuilderFault::Stored(fault) => (Reason::StoredBroken, fault.row_number()),
             BuilderFault::TableTooShort => (Reason::TableTooShort, 0),
             BuilderFault::IndexUnfit => (Reason::IndexUnfit, 0),
             BuilderFault::NoRoom => (Reason::NoRoom, 0),

@@ -8,11 +8,10 @@ ghost use Rattle.builder.specs.Taking.{AllReady};
 ghost use Rattle.builder.specs.Adding.{held_in, too_short, IsIndexed, passes, crowded, Answers};
 
 use crate::fault::BuilderFault;
-use crate::limits::{
-    INDEX_SLOTS, MAX_ERRORS, MAX_FRAGMENTS, MAX_OPERATIONS, MAX_PATH_KEYS, MAX_STORED_ROWS,
-};
+use crate::limits::{MAX_ERRORS, MAX_FRAGMENTS, MAX_OPERATIONS, MAX_PATH_KEYS, MAX_STORED_ROWS};
 use crate::progress::Progress;
 use document::{Document, Needs, check_sizes};
+use finished_tables::INDEX_SLOTS;
 use ordered_index::{agrees, in_use};
 use stored_tables::{StoredDefinition, StoredDocument, Tables};
 

@@ -18,6 +18,5 @@ mod take;
 pub use builder::ExecutableDocumentBuilder;
 pub use executable::ExecutableDocument;
 pub use fault::BuilderFault;
-pub use limits::{
-    INDEX_SLOTS, MAX_ERRORS, MAX_FRAGMENTS, MAX_OPERATIONS, MAX_PATH_KEYS, MAX_STORED_ROWS,
-};
+pub use finished_tables::INDEX_SLOTS;
+pub use limits::{MAX_ERRORS, MAX_FRAGMENTS, MAX_OPERATIONS, MAX_PATH_KEYS, MAX_STORED_ROWS};

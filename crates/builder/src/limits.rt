@@ -6,9 +6,6 @@ pub const MAX_OPERATIONS: usize = 256;
 /// How many fragments.
 pub const MAX_FRAGMENTS: usize = 256;
 
-/// How many slots the index of each of them has. Further slots stay as they are.
-pub const INDEX_SLOTS: usize = 512;
-
 /// How many stored rows.
 pub const MAX_STORED_ROWS: usize = 16_384;
 

@@ -3,10 +3,10 @@ ghost use Rattle.std.specs.Prelude.{◌≡◌, ◌+◌, ◌<◌, ◌≤◌, [], 
 ghost use Rattle.document.specs.Rows.{selection_of};
 ghost use Rattle.document.specs.Needs.{way};
 ghost use Rattle.selection_rules.specs.Errors.{path_at};
-ghost use Rattle.selection_rules.specs.Sets.{response_key, path_to};
+ghost use Rattle.selection_rules.specs.Sets.{path_to};
 
 use document::{SelectionKind, SelectionRow};
-use selection_rules::{ExecutableDefinitionName, SelectionPath};
+use selection_rules::{ExecutableDefinitionName, SelectionPath, response_key};
 
 /// An open path: as many of the keys are in use as fields are open.
 // Kept: an array with a depth beside it, since a builder has no heap, and a path is copied at each selection.
@@ -16,13 +16,6 @@ pub struct OpenPath {
     keys: [u32; 32],
     depth: usize,
     ghost within: { depth ≤ 32 },
-}
-
-// The key of a field in a response: its alias, else its name.
-fn response_key(row: &SelectionRow) -> u32
-    ensures { result ≡ response_key (selection_of row.now) }
-{
-    if row.alias == 0 { row.name } else { row.alias }
 }
 
 impl OpenPath {

@@ -1,6 +1,5 @@
-// What the calls on a finished document take: a walk over all fields, and comparing a document with another that is the same. Both
-// check first
-// what is handed back, which is measured apart.
+// What the calls on a finished document take: a walk over all fields, and comparing a document with another that is the same.
+// Both check first what is handed back, which is measured apart.
 use crate::world::World;
 use crate::{ROUNDS, measure_changes, sum_with};
 use anyhow::anyhow;

@@ -1,5 +1,6 @@
 -- What is kept are the chosen definitions, and no others are chosen.
 use Rattle.std.proofs.Common.{◌≡◌, ℕ, Bool, true, false, cond, eqb, ◌≢◌, List, [], ◌∷◌, ◌++◌, Some, None, Option, sym, refl, ◌∙◌, append-nil}
+use Rattle.std.specs.Option.{option_or}
 use Rattle.std.proofs.lemmas.Bool.{eqb-true, eqb-false, false≢true, true≢false}
 use Rattle.schema.specs.Meaning.{Meaning}
 use Rattle.building_rules.specs.Definitions.{Accepted, Role, anonymous_operation, named_operation, fragment, type_system, role_of, operation_of, Kept, Taken, taken, taken_at, State, fresh, Outcome, step, kept_from}
@@ -7,15 +8,15 @@ use Rattle.building_rules.specs.Rules.{operation_role, anonymous_role, named_rol
 use Rattle.building_rules.specs.Chosen.{NoOperation, NoneNamed, ToKeep, Chosen, KeptAreChosen}
 use Rattle.building_rules.proofs.Rows.{no_cons, both_nil}
 use Rattle.building_rules.proofs.Steps.{Stores, as_anonymous, as_named, as_fragment, Becomes, becomes}
-use Rattle.building_rules.proofs.Read.{names_kept, anonymous_kept, Tells, first_of, first_push, tells_step}
+use Rattle.building_rules.proofs.Read.{names_kept, anonymous_kept, Tells, first_push, tells_step}
 
 -- Names that are taken are names that are kept
 
-none_both : {A : Type 0} (a b : Option A) → first_of a b ≡ None → (a ≡ None) × (b ≡ None)
+none_both : {A : Type 0} (a b : Option A) → option_or a b ≡ None → (a ≡ None) × (b ≡ None)
 none_both None b e = (refl, e)
 none_both (Some a) b e = cc
 
-taken_join : (n : ℕ) (xs ys : List Taken) → taken_at n (xs ++ ys) ≡ first_of (taken_at n xs) (taken_at n ys)
+taken_join : (n : ℕ) (xs ys : List Taken) → taken_at n (xs ++ ys) ≡ option_or (taken_at n xs) (taken_at n ys)
 taken_join n [] ys = refl
 taken_join n (t ∷ xs) ys = rw (taken_join n xs ys) (first_push (eqb n t.name) t.location (taken_at n xs) (taken_at n ys))
 

@@ -11,9 +11,9 @@ use Rattle.schema.specs.Law.{Lawful}
 use Rattle.selection_rules.specs.Stored.{field, inline, form_of}
 use Rattle.selection_rules.specs.Sets.{errors}
 use Rattle.building_rules.specs.Definitions.{Accepted, Role, anonymous_operation, named_operation, fragment, type_system, role_of, operation_of, start_path, fresh}
-use Rattle.building_rules.specs.Rules.{operation_role, fragment_role, is_operation, is_named, is_fragment, Around, of_root, of_fragment, Selected, Within, Leaf, Operation, Fragment, Defined, ExecutableDefinitions, FieldSelections, LeafFieldSelections, FragmentTypeExistence, RootOperationType}
+use Rattle.building_rules.specs.Rules.{operation_role, fragment_role, is_operation, is_named, is_fragment, Around, of_root, of_fragment, Selected, Occurs, Leaf, Operation, Fragment, Defined, ExecutableDefinitions, FieldSelections, LeafFieldSelections, FragmentTypeExistence, RootOperationType}
 use Rattle.building_rules.specs.Statement.{NoErrorsExactlyWhenValid}
-use Rattle.building_rules.proofs.Rows.{Good, stands_good, within_conditioned, no_faults}
+use Rattle.building_rules.proofs.Rows.{Good, stands_good, occurs_conditioned, no_faults}
 use Rattle.building_rules.proofs.Names.{new_alone, alone_new, lone_rule, rule_lone}
 use Rattle.building_rules.proofs.Definitions.{Rooted, Local, runs, no_errors}
 
@@ -23,7 +23,7 @@ record Sound (m : Meaning) (d : Accepted) : Type 0 where
   fields : (t : ℕ) (a : Selection) (below : Forest Selection) → Selected m d t a below → form_of a ≡ field → Defined m t a.name
   leaves : (t : ℕ) (a : Selection) (below : Forest Selection) → Selected m d t a below → form_of a ≡ field → (x : FieldDefinition) → m.field t a.name ≡ Ok x → Leaf (m.sort x.inner) → below ≡ none
   condition : is_fragment d ≡ true → m.known d.head.condition ≡ true
-  conditions : Operation d ⊎ Fragment d → (a : Selection) → Within d.selected a → form_of a ≡ inline → a.condition ≢ 0 → m.known a.condition ≡ true
+  conditions : Operation d ⊎ Fragment d → (a : Selection) → Occurs a d.selected → form_of a ≡ inline → a.condition ≢ 0 → m.known a.condition ≡ true
   root : is_operation d ≡ true → (t : ℕ) × (m.root (operation_of d.head) ≡ Some t)
 
 module _ (m : Meaning) (d : Accepted) where
@@ -46,7 +46,7 @@ module _ (m : Meaning) (d : Accepted) where
   fragment_of type_system l e = absurd (false≢true e)
 
   module _ (law : Lawful m) (closed : Closed m) (l : Local m d (role_of d.head)) where
-    around_fine : (t : ℕ) → Around m d t → (m.known t ≡ true) × (errors m (start_path d.head) t d.selected ≡ [])
+    around_fine : (t : ℕ) → Around m d.head t → (m.known t ≡ true) × (errors m (start_path d.head) t d.selected ≡ [])
     around_fine t (of_root v o e) =
         let r = rooted_of (role_of d.head) l o in
         let root = r.root in
@@ -59,7 +59,7 @@ module _ (m : Meaning) (d : Accepted) where
         let r = around_fine s.outer s.around in
         stands_good m law closed (start_path d.head) s.stands r.0 r.1
 
-    some_around : Operation d ⊎ Fragment d → (t : ℕ) × Around m d t
+    some_around : Operation d ⊎ Fragment d → (t : ℕ) × Around m d.head t
     some_around (inl o) = let r = rooted_of (role_of d.head) l o in (r.type, of_root r.type o r.root)
     some_around (inr f) = (d.head.condition, of_fragment f)
 
@@ -73,12 +73,12 @@ module _ (m : Meaning) (d : Accepted) where
           conditions = λ w a i.
               let o = some_around w in
               let r = around_fine o.0 o.1 in
-              within_conditioned m law closed (start_path d.head) o.0 i r.0 r.1;
+              occurs_conditioned m law closed (start_path d.head) o.0 i r.0 r.1;
           root = λ o. let r = rooted_of (role_of d.head) l o in (r.type, r.root);
         }
 
   module _ (s : Sound m d) where
-    clean : (t : ℕ) → Operation d ⊎ Fragment d → Around m d t → errors m (start_path d.head) t d.selected ≡ []
+    clean : (t : ℕ) → Operation d ⊎ Fragment d → Around m d.head t → errors m (start_path d.head) t d.selected ≡ []
     clean t o r =
         no_faults m (start_path d.head) t d.selected
         (λ u a below w.

@@ -7,9 +7,9 @@ use Rattle.selection_rules.specs.declared.settling.Settled.{Settled}
 use Rattle.selection_rules.specs.Stored.{form_of, Stored}
 use Rattle.selection_rules.specs.Sets.{settled_in}
 use Rattle.selection_rules.specs.Sets.{some_row, keep, build}
-use Rattle.building_rules.specs.Rules.{Inside}
+use Rattle.building_rules.specs.Rules.{Inside, Occurs}
 use Rattle.building_rules.specs.Whole.{handed}
-use Rattle.building_rules.specs.Keeping.{Fit, Keeps, StoredAs, Occurs, KeptAs, KeptExactly, Part, KeptInOrder}
+use Rattle.building_rules.specs.Keeping.{Fit, Keeps, StoredAs, KeptAs, KeptExactly, Part, KeptInOrder}
 use Rattle.building_rules.proofs.Settling.{View, stays, drops, faults, view}
 
 module _ (m : Meaning) (x : Stored) where

@@ -1,6 +1,7 @@
 -- Names that are taken one by one are each new exactly when each stands once, and the same of an anonymous operation.
 use Rattle.std.proofs.Common.{◌≡◌, ℕ, suc, ◌+◌, ◌<◌, ◌≤◌, Bool, true, false, cond, ◌&&◌, eqb, List, [], ◌∷◌, length, Some, None, filter, Option, refl, ap, ⊎_elim, arith}
 use Rattle.std.proofs.lemmas.Bool.{eqb-true, eq-eqb, cases_lt}
+use Rattle.std.proofs.lemmas.List.{nil_from_length}
 use Rattle.std.specs.List.{AllByRecursion}
 use Rattle.building_rules.specs.Definitions.{Accepted, Role, anonymous_operation, named_operation, fragment, type_system, role_of, Taken, taken, taken_at}
 use Rattle.building_rules.specs.Rules.{operation_role, anonymous_role, named_role, is_anonymous, is_named, operations, anonymous_operations}
@@ -143,10 +144,6 @@ held_none : (a : Option ℕ) → held a ≡ 0 → a ≡ None
 held_none None e = refl
 held_none (Some at) e = absurd (omega arith)
 
-short : {A : Type 0} (xs : List A) → length xs ≡ 0 → xs ≡ []
-short [] e = refl
-short (x ∷ xs) e = absurd (omega arith)
-
 module _ (d : Accepted) (a : Option ℕ) (ns : List Taken) (os us : List Accepted) (less : length us ≤ length os) where
   only_step : (w : Role) → LoneAt w a ns → Only (cond (anonymous_role w) (Some d.head.location) a) (cond (named_role w) (taken d.head ∷ ns) ns) os us → Only a ns (cond (operation_role w) (d ∷ os) os) (cond (anonymous_role w) (d ∷ us) us)
   only_step anonymous_operation n ih h k =
@@ -162,7 +159,7 @@ module _ (d : Accepted) (a : Option ℕ) (ns : List Taken) (os us : List Accepte
   lone_at : (w : Role) → Only a ns (cond (operation_role w) (d ∷ os) os) (cond (anonymous_role w) (d ∷ us) us) → LoneAt w a ns
   lone_at anonymous_operation h =
       let small : held a + length ns + suc (length os) ≤ 1 = ⊎_elim (λ l. absurd (let s = h (omega arith) l in omega arith)) (λ l. l) (cases_lt 1 (held a + length ns + suc (length os))) in
-      (held_none a (omega arith), short ns (omega arith))
+      (held_none a (omega arith), nil_from_length ns (omega arith))
   lone_at named_operation h =
       held_none a (⊎_elim (λ l. let s = h (omega arith) (omega arith) in omega arith) (λ l. omega arith) (cases_lt 0 (held a)))
   lone_at fragment h = tt
@@ -187,7 +184,7 @@ lone a ns (d ∷ ds) h = (
 )
 
 pub lone_rule : (ds : List Accepted) → Lone None [] ds → 1 < length (operations ds) → anonymous_operations ds ≡ []
-lone_rule ds f l = short (anonymous_operations ds) (let s = only None [] ds f (omega arith) (omega arith) in omega arith)
+lone_rule ds f l = nil_from_length (anonymous_operations ds) (let s = only None [] ds f (omega arith) (omega arith) in omega arith)
 
 pub rule_lone : (ds : List Accepted) → (1 < length (operations ds) → anonymous_operations ds ≡ []) → Lone None [] ds
 rule_lone ds h = lone None [] ds (λ l k. let s : length (anonymous_operations ds) ≡ 0 = ap length (h (omega arith)) in omega arith)

@@ -1,5 +1,6 @@
 -- The state after definitions is read off what is kept of them.
 use Rattle.std.proofs.Common.{◌≡◌, ℕ, Bool, true, false, cond, List, [], ◌∷◌, ◌++◌, Some, None, Option, sym, refl, ap, ◌∙◌, append_assoc, append-nil}
+use Rattle.std.specs.Option.{option_or}
 use Rattle.schema.specs.Meaning.{Meaning}
 use Rattle.building_rules.specs.Definitions.{Accepted, Role, role_of, Kept, Taken, taken, State, Outcome}
 use Rattle.building_rules.specs.Rules.{anonymous_role, named_role, fragment_role}
@@ -23,12 +24,7 @@ pub record Tells (s : State) (ks : List Kept) : Type 0 where
   pub operations : s.operations ≡ names_kept named_role ks
   pub fragments : s.fragments ≡ names_kept fragment_role ks
 
--- the first of two places, if there is one
-abbrev pub first_of : {A : Type 0} → Option A → Option A → Option A
-first_of None b = b
-first_of (Some a) b = Some a
-
-first_none : {A : Type 0} (a : Option A) → first_of a None ≡ a
+first_none : {A : Type 0} (a : Option A) → option_or a None ≡ a
 first_none None = refl
 first_none (Some a) = refl
 
@@ -37,11 +33,11 @@ names_join test [] ys = simp append-nil
 names_join test (k ∷ xs) ys =
     ap (λ (l : List Taken). l ++ cond (test (role_of k.head)) (taken k.head ∷ []) []) (names_join test xs ys) ∙ append_assoc (names_kept test ys) _ _
 
-pub first_push : (b : Bool) (at : ℕ) (a c : Option ℕ) → cond b (Some at) (first_of a c) ≡ first_of (cond b (Some at) a) c
+pub first_push : (b : Bool) (at : ℕ) (a c : Option ℕ) → cond b (Some at) (option_or a c) ≡ option_or (cond b (Some at) a) c
 first_push true at a c = refl
 first_push false at a c = refl
 
-pub anonymous_join : (xs ys : List Kept) → anonymous_kept (xs ++ ys) ≡ first_of (anonymous_kept xs) (anonymous_kept ys)
+pub anonymous_join : (xs ys : List Kept) → anonymous_kept (xs ++ ys) ≡ option_or (anonymous_kept xs) (anonymous_kept ys)
 anonymous_join [] ys = refl
 anonymous_join (k ∷ xs) ys = rw (anonymous_join xs ys) (first_push (anonymous_role (role_of k.head)) k.head.location (anonymous_kept xs) (anonymous_kept ys))
 
@@ -49,7 +45,7 @@ name_more : (b : Bool) (t : Taken) (ts us : List Taken) → ts ≡ us → cond b
 name_more true t ts us e = rw e refl
 name_more false t ts us e = e
 
-anonymous_more : (b : Bool) (at : ℕ) (a c : Option ℕ) → (b ≡ true → a ≡ None) → a ≡ c → cond b (Some at) a ≡ first_of c (cond b (Some at) None)
+anonymous_more : (b : Bool) (at : ℕ) (a c : Option ℕ) → (b ≡ true → a ≡ None) → a ≡ c → cond b (Some at) a ≡ option_or c (cond b (Some at) None)
 anonymous_more true at a c free e = rw (← e, free refl) refl
 anonymous_more false at a c free e = rw e (sym (first_none c))
 

@@ -12,7 +12,7 @@ use Rattle.selection_rules.specs.Stored.{Form, field, spread, inline, form_of}
 use Rattle.selection_rules.specs.Sets.{settled_in}
 use Rattle.selection_rules.specs.Errors.{Path, Error}
 use Rattle.selection_rules.specs.Sets.{path_to, some_row, listed, errors, keep, build}
-use Rattle.building_rules.specs.Rules.{Inside, of_field, of_condition, of_around, of_spread, Stands, Within, Leaf}
+use Rattle.building_rules.specs.Rules.{Inside, of_field, of_condition, of_around, of_spread, Stands, Occurs, Leaf}
 use Rattle.building_rules.specs.Whole.{handed}
 use Rattle.building_rules.specs.Keeping.{Fit, found, spreads, unconditioned, conditioned}
 use Rattle.building_rules.proofs.Settling.{field_spread, field_inline, spread_inline, View, stays, drops, faults, view}
@@ -123,14 +123,14 @@ module _ (m : Meaning) where
         let n = (fine_row p around b under after known e).0.next inner i in
         stands_good (path_to p b) w n.1 n.0
 
-    pub within_conditioned : (p : Path) (around : ℕ) {f : Forest Selection} {s : Selection} → Within f s → m.known around ≡ true → errors m p around f ≡ [] → Conditioned m s
-    within_conditioned p around (Within.here {s} {below} {after}) known e =
+    pub occurs_conditioned : {s : Selection} (p : Path) (around : ℕ) {f : Forest Selection} → Occurs s f → m.known around ≡ true → errors m p around f ≡ [] → Conditioned m s
+    occurs_conditioned {s} p around (Occurs.here {below} {after}) known e =
         fit_conditioned m around s below (fine_row p around s below after known e).0.fit
-    within_conditioned p around (Within.later {b} {under} {after} w) known e = within_conditioned p around w known (fine_row p around b under after known e).1
-    within_conditioned p around (Within.deeper {b} {under} {after} w) known e =
-        let fine = (fine_row p around b under after known e).0 in
+    occurs_conditioned p around (Occurs.later {a} {below} {after} w) known e = occurs_conditioned p around w known (fine_row p around a below after known e).1
+    occurs_conditioned p around (Occurs.deeper {a} {below} {after} w) known e =
+        let fine = (fine_row p around a below after known e).0 in
         let n = fine.next fine.inner fine.inside in
-        within_conditioned (path_to p b) fine.inner w n.1 n.0
+        occurs_conditioned (path_to p a) fine.inner w n.1 n.0
 
     -- selections that list nothing are all kept
     pub all_kept : (p : Path) (around : ℕ) (f : Forest Selection) → m.known around ≡ true → errors m p around f ≡ [] → handed (build m around f) ≡ f
@@ -146,11 +146,11 @@ module _ (m : Meaning) where
 
   pub no_faults : (p : Path) (around : ℕ) (f : Forest Selection)
       → ((t : ℕ) (s : Selection) (below : Forest Selection) → Stands m around f t s below → Good m t s below)
-      → ((s : Selection) → Within f s → Conditioned m s)
+      → ((s : Selection) → Occurs s f → Conditioned m s)
       → errors m p around f ≡ []
   no_faults p around none good c = refl
   no_faults p around (row s below after) good c =
       nil_both _ _
-      (clean m around s below (path_to p s) (beneath p s below) (good_fit m around s below (good around s below Stands.here) (c s Within.here))
-      (λ inner i. no_faults (path_to p s) inner below (λ t b u w. good t b u (Stands.deeper inner i w)) (λ b w. c b (Within.deeper w))))
-      (no_faults p around after (λ t b u w. good t b u (Stands.later w)) (λ b w. c b (Within.later w)))
+      (clean m around s below (path_to p s) (beneath p s below) (good_fit m around s below (good around s below Stands.here) (c s Occurs.here))
+      (λ inner i. no_faults (path_to p s) inner below (λ t b u w. good t b u (Stands.deeper inner i w)) (λ b w. c b (Occurs.deeper w))))
+      (no_faults p around after (λ t b u w. good t b u (Stands.later w)) (λ b w. c b (Occurs.later w)))

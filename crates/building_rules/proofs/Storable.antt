@@ -1,6 +1,7 @@
 -- What is kept of definitions keeps the rules of what is stored, and no name is kept twice.
 use Rattle.std.proofs.Common.{◌≡◌, ℕ, suc, ◌+◌, ◌≤◌, max, Bool, true, false, cond, eqb, List, [], ◌∷◌, ◌++◌, Some, None, Option, sym, refl, ◌∙◌, arith}
 use Rattle.std.proofs.Math.Bool.{and-false}
+use Rattle.std.proofs.ByRecursion.{All-append}
 use Rattle.std.proofs.lemmas.Bool.{eqb-true, eq-eqb, or_from, false≢true, true≢false}
 use Rattle.std.specs.List.{AllByRecursion}
 use Rattle.layout.specs.Forest.{Forest, none, row, size, depth, Each}
@@ -122,10 +123,6 @@ kept_named_join : (test : Role → Bool) (n : ℕ) (xs ys : List Kept) → kept_
 kept_named_join test n [] ys = omega arith
 kept_named_join test n (k ∷ xs) ys = let rest = kept_named_join test n xs ys in omega arith
 
-pub all_join : {A : Type 0} (P : A → Type 0) (xs ys : List A) → AllByRecursion P xs → AllByRecursion P ys → AllByRecursion P (xs ++ ys)
-all_join P [] ys p q = q
-all_join P (x ∷ xs) ys p q = (p.0, all_join P xs ys p.1 q)
-
 -- what is kept from a state on: each keeps the rules, and takes a name that is free
 record Roomy (s t : State) (ks : List Kept) : Type 0 where
   each : AllByRecursion Storable ks
@@ -177,7 +174,7 @@ module _ (m : Meaning) (s : State) (d : Accepted) where
 roomy_join : (s t u : State) (xs ys : List Kept) → Roomy s t xs → Roomy t u ys → Roomy s u (xs ++ ys)
 roomy_join s t u xs ys r q =
     record {
-      each = all_join Storable xs ys r.each q.each;
+      each = All-append Storable xs ys r.each q.each;
       operations = λ n. omega (arith, kept_named_join named_role n xs ys, r.operations n, q.operations n);
       fragments = λ n. omega (arith, kept_named_join fragment_role n xs ys, r.fragments n, q.fragments n);
       anonymous = λ n. omega (arith, kept_named_join anonymous_role n xs ys, r.anonymous n, q.anonymous n);

@@ -1,5 +1,6 @@
 -- Of a valid document everything is kept.
 use Rattle.std.proofs.Common.{◌≡◌, ℕ, Bool, true, false, cond, ◌||◌, List, [], ◌∷◌, ◌++◌, map, Some, None, filter, Option, refl, ap, ◌∙◌}
+use Rattle.std.proofs.lemmas.List.{map-append}
 use Rattle.schema.specs.Meaning.{Meaning, Closed}
 use Rattle.schema.specs.Law.{Lawful}
 use Rattle.building_rules.specs.Definitions.{Accepted, Role, anonymous_operation, named_operation, fragment, type_system, role_of, operation_of, start_path, Kept, Taken, taken_at, State, fresh, with_anonymous, with_operation, rooted, add_anonymous, add_named, add_fragment, beside, step_of, step, errors_from, kept_from}
@@ -7,10 +8,6 @@ use Rattle.building_rules.specs.Rules.{operation_role, fragment_role, is_executa
 use Rattle.building_rules.specs.Whole.{handed_for, definition_of, ValidIsKeptWhole}
 use Rattle.building_rules.proofs.Rows.{no_cons, both_nil, all_kept}
 use Rattle.building_rules.proofs.Joined.{no_errors_exactly_when_valid}
-
-map_join : {A B : Type 0} (f : A → B) (xs ys : List A) → map f (xs ++ ys) ≡ map f xs ++ map f ys
-map_join f [] ys = refl
-map_join f (x ∷ xs) ys = ap (λ (l : List _). f x ∷ l) (map_join f xs ys)
 
 front : {A B : Type 0} (f : A → B) (b : Bool) (x : A) (xs : List A) → map f (cond b (x ∷ []) []) ++ map f xs ≡ map f (cond b (x ∷ xs) xs)
 front f true x xs = refl
@@ -55,7 +52,7 @@ kept_whole m law closed s (d ∷ ds) h =
     let two = both_nil (step m s d).errors _ h in
     let one = step_left m law closed d s (role_of d.head) two.0 in
     let rest = kept_whole m law closed (step m s d).next ds two.1 in
-    map_join handed_for (step m s d).kept _ ∙ rw (one, rest) (front definition_of (is_executable d) d (filter is_executable ds))
+    map-append handed_for (step m s d).kept _ ∙ rw (one, rest) (front definition_of (is_executable d) d (filter is_executable ds))
 
 pub valid_is_kept_whole : ValidIsKeptWhole
 valid_is_kept_whole m law closed ds v = kept_whole m law closed fresh ds ((no_errors_exactly_when_valid m law closed ds).1 v)

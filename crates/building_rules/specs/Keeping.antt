@@ -6,7 +6,7 @@ use Rattle.schema.specs.declared.answers.FieldDefinition.{FieldDefinition}
 use Rattle.schema.specs.Meaning.{Meaning}
 use Rattle.selection_rules.specs.Stored.{field, spread, inline, form_of, Stored, stored}
 use Rattle.selection_rules.specs.Sets.{build}
-use Rattle.building_rules.specs.Rules.{Inside, Leaf}
+use Rattle.building_rules.specs.Rules.{Inside, Occurs, Leaf}
 use Rattle.building_rules.specs.Whole.{handed}
 
 -- in the type t, the selection s, with the selections `below` beneath it, is fit to be kept: a field that is found (section
@@ -34,12 +34,6 @@ pub data StoredAs (m : Meaning) (t : ℕ) (s : Selection) : Stored → Type 0 wh
   of_spread : form_of s ≡ spread → StoredAs m t s (stored s 0 0)
   of_condition : form_of s ≡ inline → s.condition ≢ 0 → StoredAs m t s (stored s 0 s.condition)
   of_around : form_of s ≡ inline → s.condition ≡ 0 → StoredAs m t s (stored s 0 t)
-
--- x stands in a forest
-pub data Occurs {A : Type 0} (x : A) : Forest A → Type 0 where
-  here : {below after : Forest A} → Occurs x (row x below after)
-  later : {a : A} {below after : Forest A} → Occurs x after → Occurs x (row a below after)
-  deeper : {a : A} {below after : Forest A} → Occurs x below → Occurs x (row a below after)
 
 -- a selection that is kept, and that is stored as x
 pub record KeptAs (m : Meaning) (around : ℕ) (f : Forest Selection) (x : Stored) : Type 0 where

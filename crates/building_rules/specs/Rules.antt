@@ -2,7 +2,7 @@
 use Rattle.std.specs.Prelude.{◌≡◌, ℕ, ◌<◌, Bool, true, false, ◌&&◌, ◌||◌, ◌≢◌, ◌⊎◌, List, [], length, Some, Ok, filter, Option, ◌==◌}
 use Rattle.std.specs.List.{AllByRecursion}
 use Rattle.layout.specs.Forest.{Forest, none, row}
-use Rattle.document.specs.Rows.{Selection}
+use Rattle.document.specs.Rows.{Selection, Head}
 use Rattle.schema.specs.declared.answers.TypeKind.{TypeKind}
 use Rattle.schema.specs.declared.answers.TypeKind.TheVariants.{Scalar, Enum}
 use Rattle.schema.specs.declared.answers.FieldDefinition.{FieldDefinition}
@@ -29,11 +29,11 @@ pub data Stands (m : Meaning) : ℕ → Forest Selection → ℕ → Selection �
   deeper : {around : ℕ} {b : Selection} {under after : Forest Selection} {t : ℕ} {s : Selection} {below : Forest Selection} (inner : ℕ)
       → Inside m around b inner → Stands m inner under t s below → Stands m around (row b under after) t s below
 
--- among the selections f and anywhere beneath them stands the selection s, in whatever type
-pub data Within : Forest Selection → Selection → Type 0 where
-  here : {s : Selection} {below after : Forest Selection} → Within (row s below after) s
-  later : {b : Selection} {under after : Forest Selection} {s : Selection} → Within after s → Within (row b under after) s
-  deeper : {b : Selection} {under after : Forest Selection} {s : Selection} → Within under s → Within (row b under after) s
+-- x stands somewhere in a forest
+pub data Occurs {A : Type 0} (x : A) : Forest A → Type 0 where
+  here : {below after : Forest A} → Occurs x (row x below after)
+  later : {a : A} {below after : Forest A} → Occurs x after → Occurs x (row a below after)
+  deeper : {a : A} {below after : Forest A} → Occurs x below → Occurs x (row a below after)
 
 -- Definitions by their roles
 
@@ -98,15 +98,15 @@ Named d = is_named d ≡ true
 abbrev pub Fragment : Accepted → Type 0
 Fragment d = is_fragment d ≡ true
 
--- the type around the selections of a definition: its root, or its condition
-pub data Around (m : Meaning) (d : Accepted) : ℕ → Type 0 where
-  of_root : (t : ℕ) → Operation d → m.root (operation_of d.head) ≡ Some t → Around m d t
-  of_fragment : Fragment d → Around m d d.head.condition
+-- the type around the selections of a definition with this head: the root of its operation type, or its condition
+pub data Around (m : Meaning) (h : Head) : ℕ → Type 0 where
+  of_root : (t : ℕ) → operation_role (role_of h) ≡ true → m.root (operation_of h) ≡ Some t → Around m h t
+  of_fragment : fragment_role (role_of h) ≡ true → Around m h h.condition
 
 -- the selection s, with the selections `below` beneath it, stands in the type t somewhere beneath the definition d
 pub record Selected (m : Meaning) (d : Accepted) (t : ℕ) (s : Selection) (below : Forest Selection) : Type 0 where
   pub outer : ℕ
-  pub around : Around m d outer
+  pub around : Around m d.head outer
   pub stands : Stands m outer d.selected t s below
 
 -- a field of that name is defined on the type t
@@ -159,7 +159,7 @@ FragmentTypeExistence m ds =
     AllByRecursion
     (λ d.
     (Fragment d → m.known d.head.condition ≡ true)
-    × (Operation d ⊎ Fragment d → (s : Selection) → Within d.selected s → form_of s ≡ inline → s.condition ≢ 0 → m.known s.condition ≡ true))
+    × (Operation d ⊎ Fragment d → (s : Selection) → Occurs s d.selected → form_of s ≡ inline → s.condition ≢ 0 → m.known s.condition ≡ true))
     ds
 
 -- Section 3.3.1, root operation types: for each operation, the schema must have a root type for its operation type.

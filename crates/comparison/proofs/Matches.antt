@@ -3,7 +3,7 @@
 use Rattle.std.proofs.Common.{◌≡◌, ℕ, zero, suc, ◌<◌, ◌≤◌, true, false, eqb, eq-eqb, List, ◌∷◌, map, length, get_or, sym, ap, ◌∙◌, subst, ⊎_elim, arith}
 use Rattle.std.specs.List.{Contains, list_any}
 use Rattle.std.specs.Cmp.{nat_eq_equiv}
-use Rattle.std.proofs.lemmas.Bool.{cases_lt, cases_Bool, eqb-false, false≢true}
+use Rattle.std.proofs.lemmas.Bool.{cases_Bool, eqb-false, false≢true}
 use Rattle.std.proofs.lemmas.Bool.Decides.{Decides-eqb}
 use Rattle.std.proofs.lemmas.List.{get_or-map, get_or_default, length-map}
 use Rattle.std.proofs.lemmas.List.Elements.{Contains-get_or}
@@ -15,11 +15,8 @@ use Rattle.selection_rules.specs.declared.stored.StoredRow.{StoredRow}
 use Rattle.stored_tables.specs.declared.definition.StoredDefinition.{StoredDefinition}
 use Rattle.stored_tables.specs.Layout.{name_of}
 use Rattle.stored_tables.specs.Verdict.{no_stored_definition, definition_at}
+use Rattle.stored_tables.proofs.Names.{Apart, one_place}
 use Rattle.finished_rules.specs.SameTables.{SameDefinition, SameTables}
-
--- no two definitions of a table have one name
-abbrev pub Apart : List StoredDefinition → Type 0
-Apart ds = (i j : ℕ) (n : ℕ) → i < j → j < length (map name_of ds) → eqb (get_or (map name_of ds) i n) (get_or (map name_of ds) j n) ≡ false
 
 -- each definition of a table has its name in the other
 abbrev NamesIn : List StoredDefinition → List StoredDefinition → Type 0
@@ -48,24 +45,13 @@ fewer ds es apart names =
     (is_member-Decides Decides-eqb (map name_of es) n).1 (subst (Contains (map name_of es)) (sym e.2 ∙ d.2) (name_in es e.0 e.1))) in
     omega (arith, within)
 
-differ : (ds : List StoredDefinition) → Apart ds → (i j : ℕ) → i < j → j < length ds → (definition_at ds i).row.name ≡ (definition_at ds j).row.name → ⊥
-differ ds apart i j less low same =
-    let long = length-map ds name_of in
-    eqb-false _ _ (apart i j 0 less (omega arith))
-    (get_or-map name_of ds i no_stored_definition 0 (omega arith) ∙ same ∙ sym (get_or-map name_of ds j no_stored_definition 0 low))
-
 -- two definitions with one name are one
 one_name : (ds : List StoredDefinition) → Apart ds → (d e : StoredDefinition) → Contains ds d → Contains ds e → d.row.name ≡ e.row.name → d ≡ e
 one_name ds apart d e p q same =
     let at-d : definition_at ds p.0 ≡ d = get_or_default ds p.0 no_stored_definition d p.1 ∙ p.2 in
     let at-e : definition_at ds q.0 ≡ e = get_or_default ds q.0 no_stored_definition e q.1 ∙ q.2 in
     let names : (definition_at ds p.0).row.name ≡ (definition_at ds q.0).row.name = ap name_of at-d ∙ same ∙ sym (ap name_of at-e) in
-    ⊎_elim (λ (less : p.0 < q.0). absurd (differ ds apart p.0 q.0 less q.1 names))
-    (λ (rest : q.0 ≤ p.0).
-    ⊎_elim (λ (more : q.0 < p.0). absurd (differ ds apart q.0 p.0 more p.1 (sym names)))
-    (λ (least : p.0 ≤ q.0). sym at-d ∙ ap (definition_at ds) (omega arith) ∙ at-e)
-    (cases_lt q.0 p.0))
-    (cases_lt p.0 q.0)
+    sym at-d ∙ ap (definition_at ds) (one_place ds apart p.0 q.0 p.1 q.1 names) ∙ at-e
 
 -- a definition with a new name, before a table
 module _ (ds : List StoredDefinition) (e : StoredDefinition) (new : list_any (eqb e.row.name) (map name_of ds) ≡ false) where

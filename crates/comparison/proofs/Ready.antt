@@ -1,37 +1,26 @@
 -- A document without a fault, whose indexes fit, has its tables in order: the rows in the range of each definition are those
 -- of a forest.
-use Rattle.std.proofs.Common.{◌≡◌, ℕ, zero, suc, ◌+◌, ◌<◌, Bool, false, cond, List, [], ◌∷◌, ◌++◌, map, length, get_or, All, Some, None, Option, sym, refl, ap, ◌∙◌, ⊎_elim, arith}
+use Rattle.std.proofs.Common.{◌≡◌, ◌+◌, Bool, false, List, [], ◌∷◌, ◌++◌, map, length, get_or, All, Some, None, Option, sym, refl, ap, ◌∙◌, ⊎_elim, arith}
 use Rattle.std.specs.List.{Contains, list_any}
 use Rattle.std.proofs.lemmas.Bool.{cases_Bool, or_parts, false≢true}
 use Rattle.std.proofs.lemmas.List.Elements.{Contains-get_or, Contains-append_left, Contains-append_right}
 use Rattle.std.proofs.lemmas.List.Folds.{list_any_at}
-use Rattle.refusal.proofs.Firsts.{or_else_none}
 use Rattle.layout.specs.declared.row.RowView.{RowView}
 use Rattle.layout.specs.declared.row.Misfit.{Misfit}
 use Rattle.layout.specs.Places.{first_misfit}
 use Rattle.layout.proofs.Forests.{lawful}
-use Rattle.document.specs.declared.kinds.DefinitionKind.TheVariants.{Operation, Fragment}
 use Rattle.selection_rules.specs.declared.stored.StoredRow.{StoredRow}
 use Rattle.selection_rules.specs.Stored.{stored_selections, stored_rules, stored_view}
 use Rattle.stored_tables.specs.declared.definition.StoredDefinition.{StoredDefinition}
-use Rattle.stored_tables.specs.declared.fault.StoredFault.{StoredFault}
-use Rattle.stored_tables.specs.declared.fault.StoredFault.TheVariants.{InAnonymous, InOperations, InFragments, InRows}
-use Rattle.stored_tables.specs.Verdict.{first_place, whole_as, anonymous_broken, unfit, stray, unfit_in, broken_row, alone, all_stored, told_in, stored_fault}
-use Rattle.stored_tables.specs.Ranges.{Placed, InOrder}
-use Rattle.stored_tables.proofs.Places.{no_place, place_none, place_of}
-use Rattle.stored_tables.proofs.Following.{in_place, clean_in_order}
+use Rattle.stored_tables.specs.Verdict.{no_stored_row, unfit, alone, all_stored, stored_fault, fault_of}
+use Rattle.stored_tables.specs.Ranges.{Placed}
+use Rattle.stored_tables.proofs.Places.{place_none, place_of}
+use Rattle.stored_tables.proofs.Following.{placed_at, in_place}
 use Rattle.stored_tables.proofs.Misfits.{unfit_places}
+use Rattle.stored_tables.proofs.Faultless.{Faultless, faultless, fitting}
 use Rattle.finished_tables.specs.declared.indexed.IndexedDocument.{IndexedDocument}
 use Rattle.finished_tables.specs.Indexes.{HasIndexes}
-use Rattle.comparison.specs.Comparing.{fault_of}
-use Rattle.comparison.specs.Ranged.{no_stored_row, RangedIn, RangedIf, ReadyDocument}
-
-no_told : (told : ℕ → StoredFault) (place : Option ℕ) → told_in told place ≡ None → place ≡ None
-no_told told None is = refl
-no_told told (Some i) is = absurd (grind arith)
-
-not_alone : (b : Bool) → cond b (Some InAnonymous) None ≡ None → b ≡ false
-not_alone b is = grind arith
+use Rattle.comparison.specs.Ranged.{RangedIn, RangedIf, ReadyDocument}
 
 no_misfit_there : (m : Option Misfit) → place_of m ≡ None → m ≡ None
 no_misfit_there None is = refl
@@ -42,12 +31,6 @@ none_passes : (p : StoredDefinition → Bool) (ds : List StoredDefinition) (d : 
 none_passes p ds d none here =
     ⊎_elim (λ is. absurd (false≢true (sym none ∙ list_any_at p ds here.0 d here.1 (ap p here.2 ∙ is)))) (λ is. is) (cases_Bool (p d))
 
--- ranges in order, one by one
-placed_at : (rows s : ℕ) (ds : List StoredDefinition) (i : ℕ) (d : StoredDefinition) → InOrder rows s ds → i < length ds → Placed rows (get_or ds i d)
-placed_at rows s [] i d order low = absurd (omega arith)
-placed_at rows s (e ∷ ds) zero d order low = order.1
-placed_at rows s (e ∷ ds) (suc i) d order low = placed_at rows e.row.end ds i d order.2 (omega arith)
-
 module _ (anonymous : Option StoredDefinition) (operations fragments : List StoredDefinition) (rows : List StoredRow) (clean : stored_fault anonymous operations fragments rows ≡ None) where
   abbrev views : List RowView
   views = map stored_view rows
@@ -55,24 +38,8 @@ module _ (anonymous : Option StoredDefinition) (operations fragments : List Stor
   abbrev all : List StoredDefinition
   all = all_stored anonymous operations fragments
 
-  -- none of the four has a fault
-  record Clean : Type 0 where
-    whole : anonymous_broken (length rows) anonymous ≡ false
-    named : InOrder (length rows) 0 operations
-    spread : InOrder (length rows) 0 fragments
-    fitting : first_place (broken_row views all) 0 (length rows) ≡ None
-
-  each_clean : Clean
-  each_clean =
-      let a = or_else_none _ _ clean in
-      let b = or_else_none _ _ a.1 in
-      let c = or_else_none _ _ b.1 in
-      record {
-        whole = not_alone _ a.0;
-        named = clean_in_order (whole_as Operation) (length rows) operations (no_told InOperations _ b.0);
-        spread = clean_in_order (whole_as Fragment) (length rows) fragments (no_told InFragments _ c.0);
-        fitting = no_told InRows _ c.1;
-      }
+  whole : Faultless anonymous operations fragments rows
+  whole = faultless anonymous operations fragments rows clean
 
   -- the rows of a definition are those of a forest
   ranged : (d : StoredDefinition) → Contains all d → Placed (length rows) d → RangedIn rows d
@@ -82,30 +49,29 @@ module _ (anonymous : Option StoredDefinition) (operations fragments : List Stor
       (sym (unfit_places views (length rows) d placed)
       ∙ place_none (λ row. unfit views row d) 0 (length rows)
       (λ row low.
-      let whole : broken_row views all (0 + row) ≡ false = no_place (broken_row views all) 0 (length rows) each_clean.fitting row low in
-      none_passes (unfit views (0 + row)) all d (or_parts (stray all (0 + row)) (unfit_in views all (0 + row)) whole).1 here)) in
+      let at : 0 + row ≡ row = omega arith in
+      ap (λ k. unfit views k d) at ∙ none_passes (unfit views row) all d (fitting anonymous operations fragments rows whole row low) here)) in
       let f = lawful stored_selections stored_rules rows no_stored_row d.row.first d.row.end 32 placed.ordered placed.within none in
       record { within = placed.within; forest = f.0; stand = f.1.stand }
 
   pub ranged_operations : All (RangedIn rows) operations
   ranged_operations i d low =
-      ranged (get_or operations i d) (Contains-append_left operations (fragments ++ alone anonymous) _ (Contains-get_or operations i d low)) (placed_at _ 0 operations i d each_clean.named low)
+      ranged (get_or operations i d) (Contains-append_left operations (fragments ++ alone anonymous) _ (Contains-get_or operations i d low)) (placed_at _ 0 operations i d whole.operations low)
 
   pub ranged_fragments : All (RangedIn rows) fragments
   ranged_fragments i d low =
       ranged (get_or fragments i d)
       (Contains-append_right operations (fragments ++ alone anonymous) _ (Contains-append_left fragments (alone anonymous) _ (Contains-get_or fragments i d low)))
-      (placed_at _ 0 fragments i d each_clean.spread low)
+      (placed_at _ 0 fragments i d whole.fragments low)
 
 ranged_anonymous : (anonymous : Option StoredDefinition) (operations fragments : List StoredDefinition) (rows : List StoredRow) → stored_fault anonymous operations fragments rows ≡ None → RangedIf rows anonymous
 ranged_anonymous None operations fragments rows clean = tt
 ranged_anonymous (Some d) operations fragments rows clean =
-    let whole = (each_clean (Some d) operations fragments rows clean).whole in
     ranged (Some d) operations fragments rows clean d
     (Contains-append_right operations (fragments ++ d ∷ []) d (Contains-append_right fragments (d ∷ []) d (0, omega arith, refl)))
-    (in_place 0 (length rows) d (or_parts _ _ whole).1).placed
+    (in_place 0 (length rows) d (or_parts _ _ (whole (Some d) operations fragments rows clean).anonymous).1).placed
 
-pub ready : (d : IndexedDocument) → fault_of d ≡ None → HasIndexes d → ReadyDocument d
+pub ready : (d : IndexedDocument) → fault_of d.stored ≡ None → HasIndexes d → ReadyDocument d
 ready d clean indexes =
     let s = d.stored in
     record {

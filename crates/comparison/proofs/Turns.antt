@@ -6,7 +6,8 @@ use Rattle.layout.proofs.Tables.{forest_read, Opened, opened}
 use Rattle.selection_rules.specs.declared.stored.StoredRow.{StoredRow}
 use Rattle.selection_rules.specs.Stored.{Stored, stored_selections}
 use Rattle.finished_rules.specs.SameTables.{SameSets}
-use Rattle.comparison.specs.Ranged.{no_stored_row, row_at, Ranged, Rooted, SameAt}
+use Rattle.stored_tables.specs.Verdict.{no_stored_row}
+use Rattle.comparison.specs.Ranged.{row_at, Ranged, Rooted, SameAt}
 
 abbrev pub set_in : List StoredRow → ℕ → ℕ → Forest Stored
 set_in rows i e = forest_in stored_selections rows i e

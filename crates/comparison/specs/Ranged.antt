@@ -5,17 +5,14 @@ use Rattle.ordered_index.specs.Keys.{same_name, name_hash}
 use Rattle.ordered_index.specs.Sound.{Sound}
 use Rattle.layout.specs.Forest.{Forest}
 use Rattle.layout.specs.Shapes.{Stand, forest_in}
-use Rattle.document.specs.Sets.{no_row}
 use Rattle.selection_rules.specs.declared.stored.StoredRow.{StoredRow}
 use Rattle.selection_rules.specs.Stored.{Stored, stored_of, stored_selections}
 use Rattle.stored_tables.specs.declared.definition.StoredDefinition.{StoredDefinition}
 use Rattle.stored_tables.specs.Layout.{name_of}
+use Rattle.stored_tables.specs.Verdict.{no_stored_row}
 use Rattle.finished_tables.specs.declared.indexed.IndexedDocument.{IndexedDocument}
 use Rattle.comparison.specs.declared.tables.DefinitionTable.{DefinitionTable}
 use Rattle.finished_rules.specs.SameTables.{SameStored, SameSets}
-
-abbrev pub no_stored_row : StoredRow
-no_stored_row = record { selection = no_row; place = 0; set_type = 0 }
 
 abbrev pub row_at : List StoredRow → ℕ → StoredRow
 row_at rows k = slice_index_or rows k no_stored_row

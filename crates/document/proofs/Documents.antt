@@ -1,5 +1,6 @@
 -- Tables without a fault are the layout of a document, the layout of a document is without a fault, and there is one only.
 use Rattle.std.proofs.Common.{◌≡◌, ℕ, ◌+◌, ◌≤◌, Bool, true, false, cond, not, ◌&&◌, eqb, ltb, List, [], ◌∷◌, ◌++◌, map, length, drop, Some, None, Ok, Err, Option, Result, sym, refl, ap, ◌∙◌, arith}
+use Rattle.std.specs.List.{AllByRecursion}
 use Rattle.std.specs.Result.{MatchResult}
 use Rattle.std.proofs.lemmas.List.{drop_all, drop_at, drop-drop, take_at, length-append, length-drop}
 use Rattle.std.proofs.lemmas.Bool.{cond-false, eq-eqb, le-ltb, ltb-false, or_from, not_from_true, false≢true}
@@ -16,7 +17,7 @@ use Rattle.document.specs.declared.rows.SelectionRow.{SelectionRow}
 use Rattle.document.specs.declared.fault.DocumentFault.{DocumentFault}
 use Rattle.document.specs.declared.fault.DocumentFault.TheVariants.{TooManyDefinitions, TooManyRows, InDefinitions}
 use Rattle.document.specs.Rows.{Selection, selections, selection_rules, selection_row, selection_view, definition_row, head_of, is_type_system}
-use Rattle.document.specs.Document.{Definition, definition_rows, selection_rows, AllKeep, IsDocument, ReadsAsOne, ReadsAsNone}
+use Rattle.document.specs.Document.{Definition, definition_rows, selection_rows, KeepsRules, IsDocument, ReadsAsOne, ReadsAsNone}
 use Rattle.document.specs.Verdict.{misplaced, definition_fault, definitions_fault, is_nil, in_rows, rows_fault, size_fault, orphan_fault, layout_fault, document_fault}
 use Rattle.document.specs.Sets.{no_row}
 use Rattle.document.proofs.Steps.{Placed, placed}
@@ -49,7 +50,7 @@ module _ (rows : List SelectionRow) where
     pub document : List Definition
     pub heads : ds ≡ definition_rows s document
     pub selected : drop s rows ≡ selection_rows s document
-    pub keep : AllKeep document
+    pub keep : AllByRecursion KeepsRules document
 
   reads_from : (s i : ℕ) (ds : List DefinitionRow) → s ≤ length rows → (is_nil ds ≡ true → s ≡ length rows)
       → definitions_fault (length rows) s i ds ≡ None → rows_fault views ds ≡ None → Reads s ds
@@ -85,7 +86,7 @@ module _ (rows : List SelectionRow) where
   nil_rows s [] is = refl
   nil_rows s (d ∷ docs) is = absurd (false≢true is)
 
-  clean_from : (s i : ℕ) (docs : List Definition) → s ≤ length rows → drop s rows ≡ selection_rows s docs → AllKeep docs
+  clean_from : (s i : ℕ) (docs : List Definition) → s ≤ length rows → drop s rows ≡ selection_rows s docs → AllByRecursion KeepsRules docs
       → (definitions_fault (length rows) s i (definition_rows s docs) ≡ None) × (rows_fault views (definition_rows s docs) ≡ None)
   clean_from s i [] low reads keep = (refl, refl)
   clean_from s i (d ∷ docs) low reads keep =

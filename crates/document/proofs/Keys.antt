@@ -8,8 +8,10 @@ use Rattle.document.specs.declared.handed.sets.SelectionStep.{SelectionStep}
 use Rattle.document.specs.Rows.{Selection, Head, head_of, definition_row, selections, selection_of, selection_row, is_field}
 use Rattle.document.specs.Sets.{no_row, no_definition_row, set_of, next_of, step_at, Holds, Follows}
 use Rattle.document.specs.declared.rows.DefinitionRow.{DefinitionRow}
-use Rattle.document.specs.Document.{Definition, no_definition, definition_rows, selection_rows, AllKeep, IsDocument}
+use Rattle.document.specs.Document.{Definition, no_definition, definition_rows, selection_rows, KeepsRules, IsDocument}
 use Rattle.document.specs.Needs.{way, forest_keys, rows_in, keys_in}
+use Rattle.std.specs.List.{AllByRecursion}
+use Rattle.std.proofs.ByRecursion.{All-get_or}
 use Rattle.std.proofs.lemmas.List.{at_drop_more, at_drop_all, length-append}
 use Rattle.std.proofs.lemmas.List.Sums.{sum_by-cons}
 use Rattle.document.proofs.Sets.{row_holds, next_follows, rows_many}
@@ -118,7 +120,7 @@ set_keys rows set above f few holds shallow = omega (arith, few_keys f above sha
 
 module _ (rows : List SelectionRow) where
   -- no document of few rows has more than 32 for each
-  few_in : (s : ℕ) (docs : List Definition) → AllKeep docs → keys_in docs ≤ 32 * rows_in docs
+  few_in : (s : ℕ) (docs : List Definition) → AllByRecursion KeepsRules docs → keys_in docs ≤ 32 * rows_in docs
   few_in s [] keep = omega arith
   few_in s (d ∷ docs) keep = grind (arith, few_keys d.selected 0 (omega (arith, keep.0.shallow)), few_in s docs keep.1)
 
@@ -126,11 +128,6 @@ module _ (rows : List SelectionRow) where
   all_rows s [] = refl
   all_rows s (d ∷ docs) =
       grind (arith, length-flatten selection_row s d.selected, all_rows (s + size d.selected) docs, length-append (flatten selection_row s d.selected) (selection_rows (s + size d.selected) docs))
-
-  shallow_at : (docs : List Definition) (i : ℕ) → i < length docs → AllKeep docs → depth (get_or docs i no_definition).selected ≤ 32
-  shallow_at [] i low keep = absurd (omega arith)
-  shallow_at (d ∷ docs) zero low keep = keep.0.shallow
-  shallow_at (d ∷ docs) (suc i) low keep = shallow_at docs i (omega arith) keep.1
 
   document_keys : (ds : List DefinitionRow) (docs : List Definition) → IsDocument ds rows docs → keys_in docs ≤ 131072
   document_keys ds docs is = omega (arith, few_in 0 docs is.keep, ap length is.selected, all_rows 0 docs, is.short)
@@ -151,7 +148,7 @@ module _ (rows : List SelectionRow) where
       let inside : i < length docs = omega (arith, as_many ds docs is) in
       record {
         holds = rw at (row_holds rows ds docs i is low);
-        shallow = omega (arith, shallow_at docs i inside is.keep);
+        shallow = omega (arith, (All-get_or KeepsRules docs i no_definition inside is.keep).shallow);
         more = at_drop_more keys_in docs i no_definition inside;
         few = document_keys ds docs is;
       }

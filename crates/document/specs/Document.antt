@@ -1,5 +1,6 @@
 -- A document: a list of definitions, each with a forest of selections; and how it is laid out in two tables.
 use Rattle.std.specs.Prelude.{◌≡◌, ℕ, ◌+◌, ◌≤◌, true, false, List, [], ◌∷◌, ◌++◌, length}
+use Rattle.std.specs.List.{AllByRecursion}
 use Rattle.layout.specs.Forest.{Forest, none, size, depth, flatten, Each}
 use Rattle.layout.specs.Shapes.{Keeps}
 use Rattle.document.specs.declared.rows.DefinitionRow.{DefinitionRow}
@@ -37,15 +38,11 @@ pub record KeepsRules (d : Definition) : Type 0 where
   pub selections : Each (Keeps selection_rules) d.selected
   pub shallow : depth d.selected ≤ 32
 
-abbrev pub AllKeep : List Definition → Type 0
-AllKeep [] = Unit {0}
-AllKeep (d ∷ ds) = KeepsRules d × AllKeep ds
-
 -- the tables are the layout of the document, which keeps the rules and the limits
 pub record IsDocument (definitions : List DefinitionRow) (rows : List SelectionRow) (document : List Definition) : Type 0 where
   pub heads : definitions ≡ definition_rows 0 document
   pub selected : rows ≡ selection_rows 0 document
-  pub keep : AllKeep document
+  pub keep : AllByRecursion KeepsRules document
   pub few : length definitions ≤ 256
   pub short : length rows ≤ 4096
 

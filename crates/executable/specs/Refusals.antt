@@ -1,17 +1,13 @@
 -- The faults of calls on finished documents as refusals.
-use Rattle.std.specs.Prelude.{ℕ, ◌-◌, ◌^◌, min}
+use Rattle.std.specs.Prelude.{ℕ}
 use Rattle.refusal.specs.declared.Layer.TheVariants as layer
 use Rattle.refusal.specs.declared.Reason.{Reason}
 use Rattle.refusal.specs.declared.Reason.TheVariants as reason
 use Rattle.refusal.specs.declared.Refusal.{Refusal}
 use Rattle.refusal.specs.Layers.{refused}
-use Rattle.stored_tables.specs.Verdict.{row_of}
+use Rattle.stored_tables.specs.Verdict.{row_number}
 use Rattle.executable.specs.declared.fault.ExecutableFault.{ExecutableFault}
 use Rattle.executable.specs.declared.fault.ExecutableFault.TheVariants.{TableTooShort, WalkTooShort, Stored, IndexUnfit, NoOperation}
-
--- a row as it is told: one past the numbers of 32 bits as the greatest of them
-abbrev pub row_number : ℕ → ℕ
-row_number row = min row (2 ^ 32 - 1)
 
 -- a refusal of the layer of finished documents
 abbrev pub topmost : Reason → ℕ → Refusal
@@ -20,6 +16,6 @@ topmost why row = refused why layer.FinishedDocument row
 abbrev pub executable_refusal : ExecutableFault → Refusal
 executable_refusal TableTooShort = topmost reason.TableTooShort 0
 executable_refusal WalkTooShort = topmost reason.WalkTooShort 0
-executable_refusal (Stored fault) = topmost reason.StoredBroken (row_number (row_of fault))
+executable_refusal (Stored fault) = topmost reason.StoredBroken (row_number fault)
 executable_refusal IndexUnfit = topmost reason.IndexUnfit 0
 executable_refusal NoOperation = topmost reason.NoOperation 0

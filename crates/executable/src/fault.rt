@@ -1,6 +1,6 @@
 // Why a call on a finished document is refused, in words and as a refusal.
 ghost use Rattle.std.specs.Prelude.{◌≡◌};
-ghost use Rattle.executable.specs.Refusals.{row_number, executable_refusal};
+ghost use Rattle.executable.specs.Refusals.{executable_refusal};
 
 use refusal::{Layer, Reason, Refusal};
 use stored_tables::StoredFault;
@@ -26,13 +26,6 @@ pub enum ExecutableFault {
     NoOperation,
 }
 
-// A row as a refusal tells it: one past the numbers of 32 bits as the greatest of them.
-fn row_number(row: usize) -> u32
-    ensures { result ≡ row_number row }
-{
-    row.min(u32::MAX as usize) as u32
-}
-
 impl From<ExecutableFault> for Refusal {
     ghost from_gives = { λ fault r. r ≡ executable_refusal fault };
 
@@ -40,7 +33,7 @@ impl From<ExecutableFault> for Refusal {
         let (reason, row) = match fault {
             ExecutableFault::TableTooShort => (Reason::TableTooShort, 0),
             ExecutableFault::WalkTooShort => (Reason::WalkTooShort, 0),
-            ExecutableFault::Stored(fault) => (Reason::StoredBroken, row_number(fault.row())),
+            ExecutableFault::Stored(fault) => (Reason::StoredBroken, fault.row_number()),
             ExecutableFault::IndexUnfit => (Reason::IndexUnfit, 0),
             ExecutableFault::NoOperation => (Reason::NoOperation, 0),
         };

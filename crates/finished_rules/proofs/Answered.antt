@@ -1,6 +1,7 @@
 -- Kept rows have the places and the set types that the schema answers: where the handed members agree, so do these.
 use Rattle.std.proofs.Common.{◌≡◌, ℕ, true, List, [], ◌∷◌, Ok, sym, refl, ap, ◌∙◌, subst}
 use Rattle.std.specs.List.{AllByRecursion}
+use Rattle.std.proofs.ByRecursion.{All-append}
 use Rattle.std.proofs.lemmas.Bool.{false≢true}
 use Rattle.layout.specs.Forest.{Forest, none, row}
 use Rattle.document.specs.Rows.{Selection, Head}
@@ -10,14 +11,13 @@ use Rattle.selection_rules.specs.declared.settling.Settled.{Settled}
 use Rattle.selection_rules.specs.Stored.{Form, form_of, Stored}
 use Rattle.selection_rules.specs.Sets.{some_row, settled_in, keep, build}
 use Rattle.building_rules.specs.Definitions.{Accepted, Role, anonymous_operation, named_operation, fragment, type_system, role_of, operation_of, State, fresh, Outcome, step, kept_from}
-use Rattle.building_rules.specs.Rules.{Inside, of_field, of_condition, of_around, of_spread, operation_role, fragment_role}
+use Rattle.building_rules.specs.Rules.{Inside, of_field, of_condition, of_around, of_spread, Around, operation_role, fragment_role}
 use Rattle.building_rules.specs.Keeping.{StoredAs}
 use Rattle.building_rules.proofs.Settling.{field_spread, field_inline, spread_inline, View, stays, drops, faults, view}
 use Rattle.building_rules.proofs.Steps.{Stores, as_anonymous, as_named, as_fragment, Becomes, becomes}
-use Rattle.building_rules.proofs.Storable.{all_join}
 use Rattle.finished_rules.specs.Same.{Alike, SameSelection, SameHead}
 use Rattle.finished_rules.specs.SameTables.{SameStored}
-use Rattle.finished_rules.specs.Answered.{Answered, RowsFollow, AroundHead, KeptAsAnswered, KeptIsAnswered, AnswersFollow}
+use Rattle.finished_rules.specs.Answered.{Answered, RowsFollow, KeptAsAnswered, KeptIsAnswered, AnswersFollow}
 
 -- What is built is as the schema answers
 
@@ -37,10 +37,10 @@ module _ (m : Meaning) where
 
   -- and so is what is kept
 
-  around_head : (s : State) (d : Accepted) (around : ℕ) → Stores m s d around → AroundHead m d.head around
-  around_head s d n (as_anonymous around w a b r) = AroundHead.of_root around (rw w refl) r
-  around_head s d n (as_named around w f r) = AroundHead.of_root around (rw w refl) r
-  around_head s d n (as_fragment w f k) = AroundHead.of_condition (rw w refl)
+  around_head : (s : State) (d : Accepted) (around : ℕ) → Stores m s d around → Around m d.head around
+  around_head s d n (as_anonymous around w a b r) = Around.of_root around (rw w refl) r
+  around_head s d n (as_named around w f r) = Around.of_root around (rw w refl) r
+  around_head s d n (as_fragment w f k) = Around.of_fragment (rw w refl)
 
   one_answered : (s : State) (d : Accepted) (o : Outcome) → Becomes m s d o → AllByRecursion (KeptAsAnswered m) o.kept
   one_answered s d o (Becomes.stays around h k e) =
@@ -50,7 +50,7 @@ module _ (m : Meaning) where
   all_answered : (s : State) (ds : List Accepted) → AllByRecursion (KeptAsAnswered m) (kept_from m s ds)
   all_answered s [] = tt
   all_answered s (d ∷ ds) =
-      all_join (KeptAsAnswered m) (step m s d).kept (kept_from m (step m s d).next ds) (one_answered s d (step m s d) (becomes m s d)) (all_answered (step m s d).next ds)
+      All-append (KeptAsAnswered m) (step m s d).kept (kept_from m (step m s d).next ds) (one_answered s d (step m s d) (becomes m s d)) (all_answered (step m s d).next ds)
 
 pub kept_is_answered : KeptIsAnswered
 kept_is_answered m ds = all_answered m fresh ds
@@ -144,11 +144,11 @@ one_role named_operation e f = absurd (false≢true f)
 one_role fragment e f = absurd (false≢true e)
 one_role type_system e f = absurd (false≢true e)
 
-one_around : (m : Meaning) (h k : Head) → SameHead h k → (i j : ℕ) → AroundHead m h i → AroundHead m k j → i ≡ j
-one_around m h k same i j (AroundHead.of_root t o e) (AroundHead.of_root u p g) = let type = same_operation h k same in cc
-one_around m h k same i j (AroundHead.of_root t o e) (AroundHead.of_condition p) = one_role (role_of h) o (ap fragment_role (same_role h k same) ∙ p)
-one_around m h k same i j (AroundHead.of_condition o) (AroundHead.of_root u p g) = one_role (role_of h) (ap operation_role (same_role h k same) ∙ p) o
-one_around m h k same i j (AroundHead.of_condition o) (AroundHead.of_condition p) = same.condition
+one_around : (m : Meaning) (h k : Head) → SameHead h k → (i j : ℕ) → Around m h i → Around m k j → i ≡ j
+one_around m h k same i j (Around.of_root t o e) (Around.of_root u p g) = let type = same_operation h k same in cc
+one_around m h k same i j (Around.of_root t o e) (Around.of_fragment p) = one_role (role_of h) o (ap fragment_role (same_role h k same) ∙ p)
+one_around m h k same i j (Around.of_fragment o) (Around.of_root u p g) = one_role (role_of h) (ap operation_role (same_role h k same) ∙ p) o
+one_around m h k same i j (Around.of_fragment o) (Around.of_fragment p) = same.condition
 
 pub answers_follow : AnswersFollow
 answers_follow m k j a b = (

@@ -8,10 +8,10 @@ use Rattle.building_rules.specs.Rules.{fragment_role}
 use Rattle.stored_tables.specs.declared.definition.StoredDefinition.{StoredDefinition}
 use Rattle.stored_tables.specs.declared.stored.StoredDocument.{StoredDocument}
 use Rattle.stored_tables.specs.Layout.{rows_of, fragments_of}
-use Rattle.stored_tables.specs.Verdict.{definition_at}
+use Rattle.stored_tables.specs.Verdict.{no_stored_row, definition_at}
 use Rattle.finished_rules.specs.Reaches as kept
 use Rattle.finished_rules.specs.Reaches.{kept_at}
-use Rattle.finished_rules.specs.ReachesInTables.{no_stored_row, row_at, fragment_at, Beneath, Names, Chain, last_of, Reaches}
+use Rattle.finished_rules.specs.ReachesInTables.{row_at, fragment_at, Beneath, Names, Chain, last_of, Reaches}
 use Rattle.finished_rules.specs.Numbers.{entry, numbers}
 use Rattle.finished_rules.specs.Reached.{TablesReach}
 use Rattle.finished_rules.proofs.Numbers.{table_rows, range_end}

@@ -1,18 +1,17 @@
 -- What is read back from the tables of kept definitions is each of them, by its role and in its order.
-use Rattle.std.proofs.Common.{◌≡◌, ℕ, ◌+◌, ◌≤◌, Bool, true, false, cond, ◌==◌, List, [], ◌∷◌, ◌++◌, map, length, None, sym, refl, ap, ◌∙◌, arith}
-use Rattle.std.proofs.lemmas.Bool.{false≢true}
+use Rattle.std.proofs.Common.{◌≡◌, ℕ, ◌+◌, Bool, true, false, cond, List, [], ◌∷◌, ◌++◌, map, sym, refl, ap, ◌∙◌, arith}
 use Rattle.layout.specs.Forest.{size, flatten}
 use Rattle.layout.specs.Shapes.{Stand}
 use Rattle.layout.proofs.Tables.{forest_read}
 use Rattle.selection_rules.specs.declared.stored.StoredRow.{StoredRow}
 use Rattle.selection_rules.specs.Stored.{stored_row, stored_selections}
-use Rattle.building_rules.specs.Definitions.{Kept, Role, anonymous_operation, named_operation, fragment, type_system, role_of}
+use Rattle.building_rules.specs.Definitions.{Kept, Role, role_of}
 use Rattle.building_rules.specs.Rules.{anonymous_role, named_role, fragment_role}
-use Rattle.building_rules.specs.Storable.{kept_named}
 use Rattle.stored_tables.specs.declared.definition.StoredDefinition.{StoredDefinition}
-use Rattle.stored_tables.specs.Layout.{laid_out, rows_of, those_of, latest}
+use Rattle.stored_tables.specs.Layout.{laid_out, rows_of, those_of}
 use Rattle.stored_tables.specs.Verdict.{alone}
 use Rattle.stored_tables.proofs.LaidOut.{RestIs, rest_next}
+use Rattle.stored_tables.proofs.Clean.{anonymous_length, alone_latest}
 use Rattle.finished_rules.specs.Tables.{read_back, kept_as, TablesReadBack}
 
 module _ (rows : List StoredRow) where
@@ -33,35 +32,12 @@ module _ (rows : List StoredRow) where
       map_step (test (role_of k.head)) (laid_out s k) k (those_of test (s + size k.rows) ks) (kept_as test ks) (back_here s k ks at)
       (those_back test (s + size k.rows) ks (rest_next rows s k ks at))
 
--- one anonymous operation at most
-
-unnamed : (a b c : Bool) → anonymous_role (cond a (cond b anonymous_operation named_operation) (cond c fragment type_system)) ≡ true → b ≡ true
-unnamed true true c is = refl
-unnamed true false c is = absurd (false≢true is)
-unnamed false b true is = absurd (false≢true is)
-unnamed false b false is = absurd (false≢true is)
-
-length_step : (b x : Bool) (d : StoredDefinition) (rest : List StoredDefinition) (n : ℕ) → (b ≡ true → x ≡ true) → length rest ≤ n → length (cond b (d ∷ rest) rest) ≤ cond b (cond x 1 0) 0 + n
-length_step true x d rest n named few = let one : cond {A = ℕ} x 1 0 ≡ 1 = ap (λ y. cond y 1 0) (named refl) in omega (arith, one)
-length_step false x d rest n named few = omega arith
-
-few_unnamed : (s : ℕ) (ks : List Kept) → length (those_of anonymous_role s ks) ≤ kept_named anonymous_role 0 ks
-few_unnamed s [] = omega arith
-few_unnamed s (k ∷ ks) =
-    length_step (anonymous_role (role_of k.head)) (k.head.name == 0) (laid_out s k) (those_of anonymous_role (s + size k.rows) ks) (kept_named anonymous_role 0 ks) (unnamed _ _ _)
-    (few_unnamed (s + size k.rows) ks)
-
-alone_latest : (ds : List StoredDefinition) → length ds ≤ 1 → alone (latest None ds) ≡ ds
-alone_latest [] few = refl
-alone_latest (d ∷ []) few = refl
-alone_latest (d ∷ e ∷ ds) few = absurd (omega arith)
-
 pub tables_read_back : TablesReadBack
 tables_read_back ks d storable holds =
     let rows = rows_of 0 ks in
     let at : RestIs rows 0 ks = record { reads = refl; ends = omega arith } in
     let lone : alone d.anonymous ≡ those_of anonymous_role 0 ks =
-    ap alone holds.anonymous ∙ alone_latest (those_of anonymous_role 0 ks) (omega (arith, few_unnamed 0 ks, storable.anonymous 0)) in
+    ap alone holds.anonymous ∙ alone_latest (those_of anonymous_role 0 ks) (omega (arith, anonymous_length 0 ks, storable.anonymous 0)) in
     record {
       anonymous = rw (holds.rows, lone) (those_back rows anonymous_role 0 ks at);
       operations = rw (holds.rows, holds.operations) (those_back rows named_role 0 ks at);

@@ -1,14 +1,14 @@
 -- Kept rows have the places and the set types that the schema answers, and kept definitions the types around them: so where
 -- two of them are the same, these agree too.
-use Rattle.std.specs.Prelude.{◌≡◌, ℕ, true, ◌↔◌, List, Some}
+use Rattle.std.specs.Prelude.{◌≡◌, ℕ, ◌↔◌, List}
 use Rattle.std.specs.List.{AllByRecursion}
 use Rattle.layout.specs.Forest.{Forest, none, row}
-use Rattle.document.specs.Rows.{Selection, Head}
+use Rattle.document.specs.Rows.{Selection}
 use Rattle.schema.specs.Meaning.{Meaning}
 use Rattle.selection_rules.specs.Stored.{Stored}
 use Rattle.selection_rules.specs.Sets.{build}
-use Rattle.building_rules.specs.Definitions.{Accepted, Kept, role_of, operation_of, kept_in}
-use Rattle.building_rules.specs.Rules.{Inside, operation_role, fragment_role}
+use Rattle.building_rules.specs.Definitions.{Accepted, Kept, kept_in}
+use Rattle.building_rules.specs.Rules.{Inside, Around}
 use Rattle.building_rules.specs.Keeping.{StoredAs}
 use Rattle.finished_rules.specs.Same.{Alike, SameSelection, SameHead, Same}
 use Rattle.finished_rules.specs.SameTables.{SameSets}
@@ -31,14 +31,9 @@ RowsFollow =
     (m : Meaning) (around : ℕ) (f g : Forest Stored) → Answered m around f → Answered m around g
     → Alike (λ x y. SameSelection x.selection y.selection) f g ↔ SameSets f g
 
--- the type around the selections of a head: the root of its operation type, or its condition
-pub data AroundHead (m : Meaning) (h : Head) : ℕ → Type 0 where
-  of_root : (t : ℕ) → operation_role (role_of h) ≡ true → m.root (operation_of h) ≡ Some t → AroundHead m h t
-  of_condition : fragment_role (role_of h) ≡ true → AroundHead m h h.condition
-
 -- a kept definition has the type that the schema answers, and its rows are as the schema answers in it
 pub record KeptAsAnswered (m : Meaning) (k : Kept) : Type 0 where
-  pub around : AroundHead m k.head k.set_type
+  pub around : Around m k.head k.set_type
   pub rows : Answered m k.set_type k.rows
 
 -- every kept definition is as the schema answers

@@ -1,11 +1,13 @@
 -- Which kept fields an operation reaches. A kept row's place is its number, from 0, among all rows kept.
 use Rattle.std.specs.Prelude.{◌≡◌, ℕ, suc, ◌≤◌, ◌<◌, true, List, [], ◌∷◌, ◌++◌, length, take, slice_index_or}
 use Rattle.layout.specs.Forest.{Forest, none, row}
-use Rattle.document.specs.Rows.{is_field, is_spread}
-use Rattle.selection_rules.specs.Stored.{Stored}
+use Rattle.document.specs.Rows.{is_field, is_spread, head_of}
+use Rattle.document.specs.Sets.{no_definition_row}
+use Rattle.selection_rules.specs.Stored.{Stored, stored_of}
 use Rattle.building_rules.specs.Definitions.{Kept, role_of}
 use Rattle.building_rules.specs.Rules.{fragment_role}
 use Rattle.building_rules.specs.Bounds.{rows_kept}
+use Rattle.stored_tables.specs.Verdict.{no_stored_row}
 
 -- the rows of a forest, each before those beneath it
 abbrev pub in_order : {A : Type 0} → Forest A → List A
@@ -19,20 +21,10 @@ kept_rows (k ∷ ks) = in_order k.rows ++ kept_rows ks
 
 -- what stands past the last
 abbrev pub no_stored : Stored
-no_stored =
-    record {
-      selection = record { kind = 0; name = 0; alias = 0; condition = 0; arguments = 0; directives = 0; location = 0; name_location = 0; condition_location = 0 };
-      place = 0;
-      set_type = 0;
-    }
+no_stored = stored_of no_stored_row
 
 abbrev pub no_kept : Kept
-no_kept =
-    record {
-      head = record { kind = 0; operation_type = 0; name = 0; condition = 0; variables = 0; directives = 0; location = 0; name_location = 0; condition_location = 0 };
-      set_type = 0;
-      rows = none;
-    }
+no_kept = record { head = head_of no_definition_row; set_type = 0; rows = none }
 
 abbrev pub row_at : List Kept → ℕ → Stored
 row_at ks p = slice_index_or (kept_rows ks) p no_stored

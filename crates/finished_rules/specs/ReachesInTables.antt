@@ -4,15 +4,7 @@ use Rattle.document.specs.Rows.{selection_of, is_field, is_spread}
 use Rattle.selection_rules.specs.declared.stored.StoredRow.{StoredRow}
 use Rattle.stored_tables.specs.declared.definition.StoredDefinition.{StoredDefinition}
 use Rattle.stored_tables.specs.declared.stored.StoredDocument.{StoredDocument}
-use Rattle.stored_tables.specs.Verdict.{definition_at}
-
-abbrev pub no_stored_row : StoredRow
-no_stored_row =
-    record {
-      selection = record { kind = 0; name = 0; alias = 0; condition = 0; arguments = 0; directives = 0; location = 0; name_location = 0; condition_location = 0; end = 0 };
-      place = 0;
-      set_type = 0;
-    }
+use Rattle.stored_tables.specs.Verdict.{no_stored_row, definition_at}
 
 abbrev pub row_at : StoredDocument → ℕ → StoredRow
 row_at d p = slice_index_or d.rows.now p no_stored_row

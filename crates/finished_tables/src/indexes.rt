@@ -10,7 +10,7 @@ use ordered_index::agrees;
 use stored_tables::StoredDefinition;
 
 /// How many slots an index has.
-const INDEX_SLOTS: usize = 512;
+pub const INDEX_SLOTS: usize = 512;
 
 // Whether the slots are as many as an index has, and those of the definitions' names.
 fn is_index(definitions: &[StoredDefinition], slots: &[u32]) -> bool

@@ -5,3 +5,4 @@ mod indexed;
 mod indexes;
 
 pub use indexed::IndexedDocument;
+pub use indexes::INDEX_SLOTS;

@@ -3,10 +3,7 @@ ghost use Rattle.std.specs.Prelude.{IfOk, length, ◌≡◌};
 
 use builder::{MAX_FRAGMENTS, MAX_STORED_ROWS};
 use std::alloc::{AllocError, Global};
-use walking::WalkStep;
-
-/// How many places of the stack a walk asks for each fragment, and for the operation.
-const STEPS_EACH: usize = 33;
+use walking::{STEPS_EACH, WalkStep};
 
 /// A stack, marks and a list for walks, as long as any document of a builder needs them.
 #[derive(Drop)]

@@ -6,8 +6,8 @@ use builder::ExecutableDocument;
 use document::DefinitionRow;
 use executable::{ExecutableFault, all_fields, is_introspection};
 use owned_tables::WalkTables;
-use schema::{Name, Schema};
-use selection_rules::StoredRow;
+use schema::Schema;
+use selection_rules::{StoredRow, response_key};
 use std::alloc::AllocError;
 use std::fmt;
 use stored_tables::Tables;
@@ -20,14 +20,6 @@ struct Reached<'t> {
     rows: &'t [StoredRow],
     places: &'t [u32],
     introspection: bool,
-}
-
-/// The alias of a field, or else its name.
-fn response_key(row: &StoredRow) -> Name {
-    match row.selection.alias {
-        0 => row.selection.name,
-        alias => alias,
-    }
 }
 
 /// What is reached, as `query A reaches 3 fields: meter, id, unit`.
@@ -51,7 +43,7 @@ impl fmt::Display for Shown<'_, '_, Reached<'_>> {
                 break;
             };
             let before = if number == 0 { ": " } else { ", " };
-            let key = names.show(response_key(row));
+            let key = names.show(response_key(&row.selection));
             write!(f, "{before}{key}")?;
         }
         if introspection {

@@ -3,6 +3,7 @@
 use Rattle.std.proofs.Common.{◌≡◌, ℕ, zero, suc, ◌+◌, ◌<◌, ◌≤◌, Bool, true, false, cond, List, [], ◌∷◌, ◌++◌, map, length, take, count_by, Some, None, Option, sym, refl, ap, ◌∙◌, subst, eq-eqb, arith}
 use Rattle.std.specs.Bool.{◌==◌}
 use Rattle.std.specs.List.{AllByRecursion, list_any}
+use Rattle.std.proofs.ByRecursion.{All-get_or, All-weaker}
 use Rattle.std.proofs.lemmas.Bool.{le-ltb, and_from, or_from, not_from_true, not_from_false, false≢true}
 use Rattle.std.proofs.lemmas.List.Folds.{list_any-append}
 use Rattle.std.proofs.lemmas.List.Sums.{sum_by-cons}
@@ -18,10 +19,10 @@ use Rattle.stored_tables.specs.declared.definition.StoredDefinition.{StoredDefin
 use Rattle.stored_tables.specs.declared.fault.StoredFault.{StoredFault}
 use Rattle.stored_tables.specs.declared.fault.StoredFault.TheVariants.{InAnonymous, InOperations, InFragments, InRows}
 use Rattle.stored_tables.specs.Layout.{laid_out, rows_of, those_of, latest, operations_of, fragments_of, anonymous_of}
-use Rattle.stored_tables.specs.Verdict.{first_place, definition_at, misplaced, whole_as, anonymous_whole, broken_definition, anonymous_broken, holds, unfit, unfit_in, broken_row, alone, all_stored, told_in, stored_fault}
+use Rattle.stored_tables.specs.Verdict.{first_place, no_stored_definition, definition_at, misplaced, whole_as, anonymous_whole, broken_definition, anonymous_broken, holds, unfit, unfit_in, broken_row, alone, all_stored, told_in, stored_fault}
 use Rattle.stored_tables.specs.Ranges.{Placed, InOrder}
 use Rattle.stored_tables.proofs.Places.{place_none}
-use Rattle.stored_tables.proofs.Following.{end_from, before_is, later_end, held_in_all}
+use Rattle.stored_tables.proofs.Following.{counted_at, end_from, before_is, later_end, held_in_all}
 use Rattle.stored_tables.proofs.LaidOut.{RestIs, Good, all_good, all_in_order, none_unfit, counted_once}
 
 -- what a role says of the head
@@ -71,21 +72,11 @@ in_place_from rows s (d ∷ ds) zero order low = not_misplaced s rows d order.0 
 in_place_from rows s (d ∷ ds) (suc i) order low =
     ap (λ e. misplaced e rows (definition_at ds i)) (later_end s d ds i) ∙ in_place_from rows d.row.end ds i order.2 (omega arith)
 
-all_at : (P : StoredDefinition → Type 0) (ds : List StoredDefinition) (i : ℕ) → AllByRecursion P ds → i < length ds → P (definition_at ds i)
-all_at P [] i all low = absurd (omega arith)
-all_at P (d ∷ ds) zero all low = all.0
-all_at P (d ∷ ds) (suc i) all low = all_at P ds i all.1 (omega arith)
-
 -- names
 
 module _ (p : StoredDefinition → Bool) where
   abbrev one : StoredDefinition → ℕ
   one d = cond (p d) 1 0
-
-  counted_at : (ds : List StoredDefinition) (i : ℕ) → i < length ds → p (definition_at ds i) ≡ true → 1 ≤ count_by p ds
-  counted_at [] i low here = absurd (omega arith)
-  counted_at (d ∷ ds) zero low here = let c = sum_by-cons one d ds in let h : one d ≡ 1 = ap (λ b. cond b 1 0) here in omega (arith, c, h)
-  counted_at (d ∷ ds) (suc i) low here = let c = sum_by-cons one d ds in let later = counted_at ds i (omega arith) here in omega (arith, c, later)
 
   off : (b : Bool) (n : ℕ) → cond b 1 0 + n ≤ 1 → 1 ≤ n → b ≡ false
   off true n few some = absurd (omega arith)
@@ -97,7 +88,7 @@ module _ (p : StoredDefinition → Bool) where
   single (d ∷ ds) zero few low here = refl
   single (d ∷ ds) (suc i) few low here =
       let c = sum_by-cons one d ds in
-      let some = counted_at ds i (omega arith) here in
+      let some = counted_at p ds i (omega arith) here in
       or_from _ _ (off (p d) (count_by p ds) (omega (arith, c)) some) (single ds i (omega (arith, c)) (omega arith) here)
 
 abbrev named_as : ℕ → StoredDefinition → Bool
@@ -121,12 +112,8 @@ table_clean whole rows ds order all few =
     let at : 0 + m ≡ m = omega arith in
     let placed = ap (λ e. misplaced e rows d) (before_is ds m) ∙ in_place_from rows 0 ds m order low in
     ap (broken_definition whole rows ds) at
-    ∙ or_from _ _ (not_from_true _ (all_at (λ x. whole x ≡ true) ds m all low))
+    ∙ or_from _ _ (not_from_true _ (All-get_or (λ x. whole x ≡ true) ds m no_stored_definition low all))
     (or_from _ _ placed (single (named_as d.row.name) ds m (few d.row.name) low (eq-eqb d.row.name d.row.name refl))))
-
-all_whole : (P Q : StoredDefinition → Type 0) (ds : List StoredDefinition) → ((d : StoredDefinition) → P d → Q d) → AllByRecursion P ds → AllByRecursion Q ds
-all_whole P Q [] f all = tt
-all_whole P Q (d ∷ ds) f all = (f d all.0, all_whole P Q ds f all.1)
 
 -- the anonymous operation: one at most
 
@@ -134,12 +121,12 @@ length_step : (b x : Bool) (d : StoredDefinition) (rest : List StoredDefinition)
 length_step true x d rest more named is = let one : cond {A = ℕ} x 1 0 ≡ 1 = ap (λ y. cond y 1 0) (named refl) in omega (arith, one)
 length_step false x d rest more named is = omega arith
 
-anonymous_length : (s : ℕ) (ks : List Kept) → length (those_of anonymous_role s ks) ≡ kept_named anonymous_role 0 ks
+pub anonymous_length : (s : ℕ) (ks : List Kept) → length (those_of anonymous_role s ks) ≡ kept_named anonymous_role 0 ks
 anonymous_length s [] = refl
 anonymous_length s (k ∷ ks) =
     length_step (anonymous_role (role_of k.head)) (k.head.name == 0) (laid_out s k) _ _ (λ is. (anonymous_parts _ _ _ is).1) (anonymous_length (s + size k.rows) ks)
 
-alone_latest : (ds : List StoredDefinition) → length ds ≤ 1 → alone (latest None ds) ≡ ds
+pub alone_latest : (ds : List StoredDefinition) → length ds ≤ 1 → alone (latest None ds) ≡ ds
 alone_latest [] few = refl
 alone_latest (d ∷ []) few = refl
 alone_latest (d ∷ e ∷ ds) few = absurd (omega arith)
@@ -184,6 +171,6 @@ clean ks storable =
     ∙ or_from _ _ (none_unfit rows fragment_role m fragments good-fragments) fine-others)) in
     four_none _ _ _ _
     (ap (λ b. cond b (Some InAnonymous) None) (anonymous_clean rows others few good-others))
-    (ap (told_in InOperations) (table_clean (whole_as Operation) n operations (all_in_order rows named_role 0 ks at) (all_whole (Good rows named_role) (λ d. whole_as Operation d ≡ true) operations (operation_whole rows) good-operations) few-operations))
-    (ap (told_in InFragments) (table_clean (whole_as Fragment) n fragments (all_in_order rows fragment_role 0 ks at) (all_whole (Good rows fragment_role) (λ d. whole_as Fragment d ≡ true) fragments (fragment_whole rows) good-fragments) few-fragments))
+    (ap (told_in InOperations) (table_clean (whole_as Operation) n operations (all_in_order rows named_role 0 ks at) (All-weaker (Good rows named_role) (λ d. whole_as Operation d ≡ true) (operation_whole rows) operations good-operations) few-operations))
+    (ap (told_in InFragments) (table_clean (whole_as Fragment) n fragments (all_in_order rows fragment_role 0 ks at) (All-weaker (Good rows fragment_role) (λ d. whole_as Fragment d ≡ true) (fragment_whole rows) fragments good-fragments) few-fragments))
     (ap (told_in InRows) (place_none (broken_row (map stored_view rows) (all_stored anonymous operations fragments)) 0 n row_fine))

@@ -1,5 +1,5 @@
 -- Ranges that follow one another: of what is left of them, only the first can hold a row.
-use Rattle.std.proofs.Common.{◌≡◌, ℕ, zero, suc, ◌+◌, ◌<◌, ◌≤◌, Bool, true, false, cond, leb, List, [], ◌∷◌, ◌++◌, length, take, count_by, None, Option, sym, refl, ap, ◌∙◌, arith}
+use Rattle.std.proofs.Common.{◌≡◌, ℕ, zero, suc, ◌+◌, ◌<◌, ◌≤◌, Bool, true, false, cond, leb, List, [], ◌∷◌, ◌++◌, length, get_or, take, count_by, None, Option, sym, refl, ap, ◌∙◌, arith}
 use Rattle.std.proofs.lemmas.Bool.{leb-true, leb-false, ltb-false, or_parts}
 use Rattle.std.proofs.lemmas.Bool.Decides.{nat_tests}
 use Rattle.std.proofs.lemmas.List.Sums.{sum_by-cons, sum_by-append}
@@ -13,11 +13,32 @@ pub in_order_from : (rows s t : ℕ) (ds : List StoredDefinition) → t ≤ s �
 in_order_from rows s t [] low order = tt
 in_order_from rows s t (d ∷ ds) low order = (omega (arith, order.0), order.1, order.2)
 
+-- each lies within the rows
+pub placed_at : (rows s : ℕ) (ds : List StoredDefinition) (i : ℕ) (d : StoredDefinition) → InOrder rows s ds → i < length ds → Placed rows (get_or ds i d)
+placed_at rows s [] i d order low = absurd (omega arith)
+placed_at rows s (e ∷ ds) zero d order low = order.1
+placed_at rows s (e ∷ ds) (suc i) d order low = placed_at rows e.row.end ds i d order.2 (omega arith)
+
 pub held_later : (row : ℕ) (d : StoredDefinition) → row < d.row.first → holds row d ≡ false
 held_later row d low = grind (arith, nat_tests)
 
 pub held_before : (row : ℕ) (d : StoredDefinition) → d.row.end ≤ row → holds row d ≡ false
 held_before row d high = grind (arith, nat_tests)
+
+pub holds_inside : (row : ℕ) (d : StoredDefinition) → d.row.first ≤ row → row < d.row.end → holds row d ≡ true
+holds_inside row d low high = grind (arith, nat_tests)
+
+-- where a definition passes, they are counted
+pub counted_at : (p : StoredDefinition → Bool) (ds : List StoredDefinition) (i : ℕ) → i < length ds → p (definition_at ds i) ≡ true → 1 ≤ count_by p ds
+counted_at p [] i low here = absurd (omega arith)
+counted_at p (d ∷ ds) zero low here =
+    let c = sum_by-cons (λ (x : StoredDefinition). cond {A = ℕ} (p x) 1 0) d ds in
+    let one : cond {A = ℕ} (p d) 1 0 ≡ 1 = ap (λ b. cond b 1 0) here in
+    omega (arith, c, one)
+counted_at p (d ∷ ds) (suc i) low here =
+    let c = sum_by-cons (λ (x : StoredDefinition). cond {A = ℕ} (p x) 1 0) d ds in
+    let later = counted_at p ds i (omega arith) here in
+    omega (arith, c, later)
 
 -- a row before them is in none
 pub none_hold : (rows row s : ℕ) (ds : List StoredDefinition) → row < s → InOrder rows s ds → count_by (holds row) ds ≡ 0

@@ -2,7 +2,7 @@
 use Rattle.std.proofs.Common.{◌≡◌, ℕ, ◌+◌, ◌-◌, ◌<◌, ◌≤◌, Bool, true, false, cond, ◌&&◌, ltb, leb, List, [], ◌∷◌, ◌++◌, map, length, drop, count_by, None, Option, sym, refl, ap, ◌∙◌, ⊎_elim, arith}
 use Rattle.std.specs.Option.{is_some}
 use Rattle.std.specs.List.{AllByRecursion}
-use Rattle.std.proofs.lemmas.Bool.{le-leb, leb-true, lt-ltb, ltb-true, and_parts, and_from, or_from, cases_lt}
+use Rattle.std.proofs.lemmas.Bool.{leb-true, ltb-true, and_parts, or_from, cases_lt}
 use Rattle.std.proofs.lemmas.List.{drop-drop, drop_at, length-append}
 use Rattle.std.proofs.lemmas.List.Sums.{sum_by-cons}
 use Rattle.refusal.proofs.Firsts.{no_fault}
@@ -12,21 +12,17 @@ use Rattle.layout.specs.Forest.{size, flatten}
 use Rattle.layout.specs.Places.{fault_in, misfit, first_misfit}
 use Rattle.layout.proofs.Tables.{length-flatten}
 use Rattle.layout.proofs.Forests.{clean as forest_clean}
-use Rattle.document.specs.Rows.{head_unnamed, head_broken, selection_of}
-use Rattle.document.specs.Sets.{no_row}
+use Rattle.document.specs.Rows.{head_unnamed, head_broken}
 use Rattle.selection_rules.specs.declared.stored.StoredRow.{StoredRow}
-use Rattle.selection_rules.specs.Stored.{stored, stored_row, stored_view, stored_selections, stored_rules}
+use Rattle.selection_rules.specs.Stored.{stored_row, stored_view, stored_selections, stored_rules}
 use Rattle.building_rules.specs.Definitions.{Kept, Role, anonymous_operation, named_operation, fragment, type_system, role_of}
 use Rattle.building_rules.specs.Rules.{anonymous_role, named_role, fragment_role, operation_role}
 use Rattle.building_rules.specs.Storable.{Storable}
 use Rattle.stored_tables.specs.declared.definition.StoredDefinition.{StoredDefinition}
 use Rattle.stored_tables.specs.Layout.{stored_head, laid_out, rows_of, those_of}
-use Rattle.stored_tables.specs.Verdict.{holds, unfit, unfit_in}
+use Rattle.stored_tables.specs.Verdict.{no_stored_row, holds, unfit, unfit_in}
 use Rattle.stored_tables.specs.Ranges.{Placed, InOrder}
-use Rattle.stored_tables.proofs.Following.{held_before, none_hold, in_order_from}
-
-no_stored_row : StoredRow
-no_stored_row = stored_row (stored (selection_of no_row) 0 0) 0
+use Rattle.stored_tables.proofs.Following.{held_before, holds_inside, none_hold, in_order_from}
 
 -- the rows of `rows` from s on are those of ks, up to the end
 pub record RestIs (rows : List StoredRow) (s : ℕ) (ks : List Kept) : Type 0 where
@@ -152,7 +148,7 @@ counted_none rows row s ks at low =
     omega (arith, a, b, c)
 
 held_within : (row s : ℕ) (k : Kept) → s ≤ row → row < s + size k.rows → held row (laid_out s k) ≡ 1
-held_within row s k low high = ap (λ b. cond b 1 0) (and_from _ _ (le-leb _ _ low) (lt-ltb _ _ high))
+held_within row s k low high = ap (λ b. cond b 1 0) (holds_inside row (laid_out s k) low high)
 
 held_after : (row s : ℕ) (k : Kept) → s + size k.rows ≤ row → held row (laid_out s k) ≡ 0
 held_after row s k past = ap (λ b. cond b 1 0) (held_before row (laid_out s k) past)

@@ -1,7 +1,6 @@
 -- The rows that do not fit: of one range, of several, and with those that are in no range or in several.
-use Rattle.std.proofs.Common.{◌≡◌, ℕ, ◌+◌, ◌-◌, ◌<◌, ◌≤◌, Bool, true, ◌||◌, min, List, [], ◌∷◌, ◌++◌, length, get_or, drop, Some, None, Ok, Err, Option, sym, refl, ap, ◌∙◌, subst, arith}
+use Rattle.std.proofs.Common.{◌≡◌, ℕ, ◌+◌, ◌-◌, ◌<◌, ◌≤◌, Bool, ◌||◌, min, List, [], ◌∷◌, ◌++◌, length, get_or, drop, Some, None, Ok, Err, Option, sym, refl, ap, ◌∙◌, subst, arith}
 use Rattle.std.specs.Option.{is_some}
-use Rattle.std.proofs.lemmas.Bool.Decides.{nat_tests}
 use Rattle.std.proofs.lemmas.List.{drop_more}
 use Rattle.std.proofs.lemmas.List.Folds.{list_any-append}
 use Rattle.refusal.specs.Firsts.{or_else, verdict_of}
@@ -10,17 +9,14 @@ use Rattle.layout.specs.declared.row.RowView.{RowView}
 use Rattle.layout.specs.declared.row.Misfit.{Misfit}
 use Rattle.layout.specs.Places.{fault_in, first_misfit}
 use Rattle.stored_tables.specs.declared.definition.StoredDefinition.{StoredDefinition}
-use Rattle.stored_tables.specs.Verdict.{first_place, no_stored_definition, holds, unfit, stray, unfit_in, broken_row, alone, all_stored}
+use Rattle.stored_tables.specs.Verdict.{first_place, no_stored_definition, unfit, stray, unfit_in, broken_row, alone, all_stored}
 use Rattle.stored_tables.specs.Ranges.{Placed, InOrder, earlier}
 use Rattle.stored_tables.proofs.Places.{earlier_none, earlier_of_three, place_parts, place_none, place_same, place_either, place_of, place_of_fault, told_above}
-use Rattle.stored_tables.proofs.Following.{held_later, held_before, in_order_from}
+use Rattle.stored_tables.proofs.Following.{held_later, held_before, holds_inside, in_order_from}
 
 or_none : (a b : Option ℕ) → b ≡ None → or_else a b ≡ a
 or_none None b is = is
 or_none (Some a) b is = refl
-
-holds_inside : (row : ℕ) (d : StoredDefinition) → d.row.first ≤ row → row < d.row.end → holds row d ≡ true
-holds_inside row d low high = grind (arith, nat_tests)
 
 module _ (views : List RowView) where
   abbrev unfit_for : StoredDefinition → ℕ → Bool

@@ -1,16 +1,17 @@
 -- The first fault of stored definitions and rows that are handed back.
-use Rattle.std.specs.Prelude.{ℕ, zero, suc, ◌+◌, Bool, false, cond, not, ◌&&◌, ◌||◌, List, [], ◌∷◌, ◌++◌, map, length, take, is_some, count_by, Some, None, Option, ◌==◌, nat_le, nat_lt, slice_index_or}
+use Rattle.std.specs.Prelude.{ℕ, zero, suc, ◌+◌, ◌-◌, ◌^◌, min, Bool, false, cond, not, ◌&&◌, ◌||◌, List, [], ◌∷◌, ◌++◌, map, length, take, is_some, count_by, Some, None, Option, ◌==◌, nat_le, nat_lt, slice_index_or}
 use Rattle.std.specs.List.{list_any}
 use Rattle.refusal.specs.Firsts.{or_else}
 use Rattle.layout.specs.declared.row.RowView.{RowView}
 use Rattle.layout.specs.Places.{fault_in}
 use Rattle.document.specs.Rows.{is_operation, is_fragment, named_operation, head_unnamed, head_broken}
-use Rattle.document.specs.Sets.{no_definition_row}
+use Rattle.document.specs.Sets.{no_row, no_definition_row}
 use Rattle.document.specs.declared.kinds.DefinitionKind.{DefinitionKind}
 use Rattle.document.specs.declared.kinds.DefinitionKind.TheVariants.{Operation, Fragment, TypeSystem}
 use Rattle.selection_rules.specs.declared.stored.StoredRow.{StoredRow}
 use Rattle.selection_rules.specs.Stored.{stored_view}
 use Rattle.stored_tables.specs.declared.definition.StoredDefinition.{StoredDefinition}
+use Rattle.stored_tables.specs.declared.stored.StoredDocument.{StoredDocument}
 use Rattle.stored_tables.specs.declared.fault.StoredFault.{StoredFault}
 use Rattle.stored_tables.specs.declared.fault.StoredFault.TheVariants.{InAnonymous, InOperations, InFragments, InRows}
 use Rattle.stored_tables.specs.Layout.{stored_head}
@@ -20,10 +21,15 @@ abbrev pub first_place : (ℕ → Bool) → ℕ → ℕ → Option ℕ
 first_place test i zero = None
 first_place test i (suc left) = cond (test i) (Some i) (first_place test (i + 1) left)
 
--- The definitions
+-- What stands past the last of a table
 
 abbrev pub no_stored_definition : StoredDefinition
 no_stored_definition = record { row = no_definition_row; set_type = 0 }
+
+abbrev pub no_stored_row : StoredRow
+no_stored_row = record { selection = no_row; place = 0; set_type = 0 }
+
+-- The definitions
 
 abbrev pub definition_at : List StoredDefinition → ℕ → StoredDefinition
 definition_at ds i = slice_index_or ds i no_stored_definition
@@ -113,9 +119,17 @@ stored_fault anonymous operations fragments rows =
     (or_else (told_in InFragments (first_place (broken_definition (whole_as Fragment) (length rows) fragments) 0 (length fragments)))
     (told_in InRows (first_place (broken_row (map stored_view rows) (all_stored anonymous operations fragments)) 0 (length rows)))))
 
+-- the first fault of what is stored
+abbrev pub fault_of : StoredDocument → Option StoredFault
+fault_of d = stored_fault d.anonymous d.operations.now d.fragments.now d.rows.now
+
 -- the place, plus 1, that a fault tells, or 0
 abbrev pub row_of : StoredFault → ℕ
 row_of InAnonymous = 0
 row_of (InOperations row) = row
 row_of (InFragments row) = row
 row_of (InRows row) = row
+
+-- the same as a refusal tells it: one past the numbers of 32 bits as the greatest of them
+abbrev pub row_number : StoredFault → ℕ
+row_number fault = min (row_of fault) (2 ^ 32 - 1)

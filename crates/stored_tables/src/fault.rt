@@ -1,6 +1,6 @@
 // What is wrong with stored definitions and rows that are handed back, in words.
 ghost use Rattle.std.specs.Prelude.{◌≡◌};
-ghost use Rattle.stored_tables.specs.Verdict.{row_of};
+ghost use Rattle.stored_tables.specs.Verdict.{row_of, row_number};
 
 use thiserror::Error;
 
@@ -28,5 +28,12 @@ impl StoredFault {
             | StoredFault::InFragments(row)
             | StoredFault::InRows(row) => row,
         }
+    }
+
+    /// The same as a refusal tells it: one past the numbers of 32 bits as the greatest of them.
+    pub fn row_number(self) -> u32
+        ensures { result ≡ row_number self }
+    {
+        self.row().min(u32::MAX as usize) as u32
     }
 }

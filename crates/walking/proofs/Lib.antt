@@ -8,10 +8,10 @@ pub mod Places
 pub mod Marking
 pub mod Closed
 pub mod Orders
+pub mod Few
 pub mod Exact
 pub mod Going
 pub mod Under
-pub mod Few
 pub mod Shapes
 pub mod Whole
 pub mod Metas

@@ -1,32 +1,30 @@
 -- Where tables have no fault and a sound index, their definitions have the shape that a walk relies on.
-use Rattle.std.proofs.Common.{◌≡◌, ℕ, zero, suc, ◌+◌, ◌<◌, ◌≤◌, ◌⊎◌, inl, inr, Bool, true, false, cond, eqb, ◌&&◌, List, [], ◌∷◌, map, length, get_or, count_by, Some, None, Option, sym, refl, ap, ◌∙◌, subst, eqb-true, leb-false, arith}
+use Rattle.std.proofs.Common.{◌≡◌, ℕ, zero, suc, ◌+◌, ◌<◌, ◌≤◌, ◌⊎◌, inl, inr, Bool, true, false, cond, ◌&&◌, List, [], ◌∷◌, map, length, get_or, count_by, Some, None, Option, sym, refl, ap, ◌∙◌, subst, arith}
 use Rattle.std.specs.Option.{is_some}
-use Rattle.std.proofs.lemmas.Bool.{cases_lt, le-leb, lt-ltb, and_from, or_parts, not-false, false≢true, eq-eqb}
-use Rattle.std.proofs.lemmas.List.{get_or-map, length-map}
+use Rattle.std.proofs.lemmas.Bool.{cases_lt, or_parts, false≢true}
+use Rattle.std.proofs.lemmas.List.{get_or-map}
 use Rattle.std.proofs.lemmas.List.Sums.{sum_by-cons}
 use Rattle.std.proofs.lemmas.Option.{get_or_from_slice_get, slice_get_within}
-use Rattle.refusal.proofs.Firsts.{or_else_none}
 use Rattle.layout.specs.declared.row.RowView.{RowView}
-use Rattle.layout.specs.declared.row.RowFault.TheVariants.{NameMissing, Broken, TooDeep}
-use Rattle.layout.specs.Places.{no_view, fault_in, own_fault, breaks}
-use Rattle.document.specs.declared.kinds.DefinitionKind.TheVariants.{Operation, Fragment}
+use Rattle.layout.specs.declared.row.RowFault.{RowFault}
+use Rattle.layout.specs.Places.{no_view, fault_in, own_fault}
+use Rattle.layout.proofs.Windows.{fits}
 use Rattle.selection_rules.specs.Stored.{stored_view}
 use Rattle.ordered_index.specs.Keys.{same_name, name_hash}
 use Rattle.ordered_index.specs.Sound.{Sound}
 use Rattle.stored_tables.specs.declared.definition.StoredDefinition.{StoredDefinition}
 use Rattle.stored_tables.specs.declared.stored.StoredDocument.{StoredDocument}
-use Rattle.stored_tables.specs.declared.fault.StoredFault.{StoredFault}
-use Rattle.stored_tables.specs.declared.fault.StoredFault.TheVariants.{InAnonymous, InOperations, InFragments, InRows}
 use Rattle.stored_tables.specs.Layout.{name_of}
-use Rattle.stored_tables.specs.Verdict.{definition_at, no_stored_definition, whole_as, anonymous_broken, holds, unfit_in, stray, broken_row, alone, all_stored, told_in}
+use Rattle.stored_tables.specs.Verdict.{definition_at, no_stored_definition, no_stored_row, anonymous_broken, holds, unfit_in, alone, all_stored}
 use Rattle.stored_tables.specs.Ranges.{InOrder}
-use Rattle.stored_tables.proofs.Places.{no_place}
-use Rattle.stored_tables.proofs.Following.{clean_in_order, held_in_all, in_place}
+use Rattle.stored_tables.proofs.Following.{placed_at, holds_inside, counted_at, held_in_all, in_place}
+use Rattle.stored_tables.proofs.Faultless.{Faultless, faultless, in_one, fitting}
+use Rattle.stored_tables.proofs.Names.{one_place}
 use Rattle.finished_tables.specs.declared.indexed.IndexedDocument.{IndexedDocument}
 use Rattle.walking.specs.declared.judge.Lengths.{Lengths}
-use Rattle.finished_rules.specs.ReachesInTables.{no_stored_row, row_at, fragment_at, Beneath}
+use Rattle.finished_rules.specs.ReachesInTables.{row_at, fragment_at, Beneath}
 use Rattle.walking.specs.Tables.{InShape, Walkable}
-use Rattle.walking.specs.Refusals.{fault_of, operation_at, Accepted}
+use Rattle.walking.specs.Refusals.{operation_at, Accepted}
 
 -- ranges that follow one another
 
@@ -45,11 +43,6 @@ one_behind rows s (d ∷ ds) f zero order less low = absurd (omega arith)
 one_behind rows s (d ∷ ds) zero (suc g) order less low = from_here rows d.row.end ds g order.2 (omega arith)
 one_behind rows s (d ∷ ds) (suc f) (suc g) order less low = one_behind rows d.row.end ds f g order.2 (omega arith) (omega arith)
 
-all_within : (rows s : ℕ) (ds : List StoredDefinition) (f : ℕ) → InOrder rows s ds → f < length ds → (definition_at ds f).row.end ≤ rows
-all_within rows s [] f order low = absurd (omega arith)
-all_within rows s (d ∷ ds) zero order low = order.1.within
-all_within rows s (d ∷ ds) (suc f) order low = all_within rows d.row.end ds f order.2 (omega arith)
-
 one_range : (rows : ℕ) (ds : List StoredDefinition) (f g p : ℕ) → InOrder rows 0 ds → f < length ds → g < length ds → Beneath (definition_at ds f) p → Beneath (definition_at ds g) p → f ≡ g
 one_range rows ds f g p order a b x y = go (cases_lt f g) (cases_lt g f)
   where
@@ -60,28 +53,14 @@ one_range rows ds f g p order a b x y = go (cases_lt f g) (cases_lt g f)
 
 -- rows in ranges
 
-held : (s : StoredDefinition) (p : ℕ) → Beneath s p → holds p s ≡ true
-held s p b = and_from _ _ (le-leb _ _ b.0) (lt-ltb _ _ b.1)
-
-counts_one : (p : ℕ) (ds : List StoredDefinition) (i : ℕ) → i < length ds → holds p (definition_at ds i) ≡ true → 1 ≤ count_by (holds p) ds
-counts_one p [] i low is = absurd (omega arith)
-counts_one p (d ∷ ds) zero low is =
-    let one : cond {A = ℕ} (holds p d) 1 0 ≡ 1 = rw is refl in
-    let parts = sum_by-cons (λ (x : StoredDefinition). cond {A = ℕ} (holds p x) 1 0) d ds in
-    omega arith
-counts_one p (d ∷ ds) (suc i) low is =
-    let later = counts_one p ds i (omega arith) is in
-    let parts = sum_by-cons (λ (x : StoredDefinition). cond {A = ℕ} (holds p x) 1 0) d ds in
-    omega arith
-
 rest_false : (a b : Bool) → a ≡ true → (a && b) ≡ false → b ≡ false
 rest_false true b is none = none
 rest_false false b is none = absurd (false≢true is)
 
 -- a row in some range fits it
-fitting : (views : List RowView) (p : ℕ) (ds : List StoredDefinition) → 1 ≤ count_by (holds p) ds → unfit_in views ds p ≡ false → (s : StoredDefinition) × (is_some (fault_in views s.row.first s.row.end 32 p) ≡ false)
-fitting views p [] some fit = absurd (omega arith)
-fitting views p (d ∷ ds) some fit = go (fitting views p ds) (holds p d) refl
+fits_one : (views : List RowView) (p : ℕ) (ds : List StoredDefinition) → 1 ≤ count_by (holds p) ds → unfit_in views ds p ≡ false → (s : StoredDefinition) × (is_some (fault_in views s.row.first s.row.end 32 p) ≡ false)
+fits_one views p [] some fit = absurd (omega arith)
+fits_one views p (d ∷ ds) some fit = go (fits_one views p ds) (holds p d) refl
   where
     go : (1 ≤ count_by (holds p) ds → unfit_in views ds p ≡ false → (s : StoredDefinition) × (is_some (fault_in views s.row.first s.row.end 32 p) ≡ false)) → (b : Bool) → holds p d ≡ b
         → (s : StoredDefinition) × (is_some (fault_in views s.row.first s.row.end 32 p) ≡ false)
@@ -94,87 +73,30 @@ fitting views p (d ∷ ds) some fit = go (fitting views p ds) (holds p d) refl
         let off : cond {A = ℕ} (holds p d) 1 0 ≡ 0 = rw is refl in
         ih (omega (arith, some, sums, off)) parts.1
 
-breaks_not : (b unnamed deep : Bool) → is_some (cond unnamed (Some NameMissing) (cond b (Some Broken) (cond deep (Some TooDeep) None))) ≡ false → b ≡ false
-breaks_not true true deep none = none
-breaks_not true false deep none = none
-breaks_not false unnamed deep none = refl
-
 sound_row : (view : RowView) (k bound : ℕ) (deep : Bool) → is_some (own_fault view k bound deep) ≡ false → k < view.end
-sound_row view k bound deep none =
-    let whole = breaks_not (breaks view k bound) view.unnamed deep none in
-    leb-false view.end k (or_parts _ _ (or_parts _ _ whole).1).0
+sound_row view k bound deep none = (fits view k bound deep (no_fault (own_fault view k bound deep) none)).above
+  where
+    no_fault : (f : Option RowFault) → is_some f ≡ false → f ≡ None
+    no_fault None is = refl
+    no_fault (Some f) is = absurd (false≢true (sym is))
 
-no_fault_told : (b : Bool) (f : StoredFault) → cond b (Some f) None ≡ None → b ≡ false
-no_fault_told true f is = absurd (grind arith)
-no_fault_told false f is = refl
-
-no_place_told : (told : ℕ → StoredFault) (o : Option ℕ) → told_in told o ≡ None → o ≡ None
-no_place_told told None is = refl
-no_place_told told (Some i) is = absurd (grind arith)
-
--- no table has a fault
-record Faultless (d : StoredDocument) : Type 0 where
-  anonymous : anonymous_broken (length d.rows.now) d.anonymous ≡ false
-  operations : InOrder (length d.rows.now) 0 d.operations.now
-  fragments : InOrder (length d.rows.now) 0 d.fragments.now
-  each : (p : ℕ) → p < length d.rows.now → broken_row (map stored_view d.rows.now) (all_stored d.anonymous d.operations.now d.fragments.now) p ≡ false
-
-faultless : (d : StoredDocument) → fault_of d ≡ None → Faultless d
-faultless d clean =
-    let a = or_else_none _ _ clean in
-    let b = or_else_none _ _ a.1 in
-    let c = or_else_none _ _ b.1 in
-    let rows = no_place_told InRows _ c.1 in
-    record {
-      anonymous = no_fault_told _ InAnonymous a.0;
-      operations = clean_in_order (whole_as Operation) (length d.rows.now) d.operations.now (no_place_told InOperations _ b.0);
-      fragments = clean_in_order (whole_as Fragment) (length d.rows.now) d.fragments.now (no_place_told InFragments _ c.0);
-      each =
-          λ p low.
-          let test = broken_row (map stored_view d.rows.now) (all_stored d.anonymous d.operations.now d.fragments.now) in
-          ap test (omega arith) ∙ no_place test 0 (length d.rows.now) rows p low;
-    }
-
-module _ (d : StoredDocument) (whole : Faultless d) where
-  -- each row is in one range
-  in_one : (p : ℕ) → p < length d.rows.now → count_by (holds p) (all_stored d.anonymous d.operations.now d.fragments.now) ≡ 1
-  in_one p low =
-      let ds = all_stored d.anonymous d.operations.now d.fragments.now in
-      eqb-true (count_by (holds p) ds) 1 (not-false (eqb (count_by (holds p) ds) 1) (or_parts (stray ds p) (unfit_in (map stored_view d.rows.now) ds p) (whole.each p low)).0)
-
+module _ (d : StoredDocument) (whole : Faultless d.anonymous d.operations.now d.fragments.now d.rows.now) where
   row_ahead : (p : ℕ) → p < length d.rows.now → p < (row_at d p).selection.end
   row_ahead p low =
       let views = map stored_view d.rows.now in
-      let one = in_one p low in
+      let one = in_one d.anonymous d.operations.now d.fragments.now d.rows.now whole p low in
       let ds = all_stored d.anonymous d.operations.now d.fragments.now in
-      let fits = fitting views p ds (omega arith) (or_parts (stray ds p) (unfit_in views ds p) (whole.each p low)).1 in
-      let end = sound_row (get_or views p no_view) p _ _ fits.1 in
+      let fit = fits_one views p ds (omega arith) (fitting d.anonymous d.operations.now d.fragments.now d.rows.now whole p low) in
+      let end = sound_row (get_or views p no_view) p _ _ fit.1 in
       let is = ap (λ (v : RowView). v.end) (get_or-map stored_view d.rows.now p no_stored_row no_view low) in
       omega arith
-
-  -- no two fragments have one name
-  name_at : (f : ℕ) → f < length d.fragments.now → get_or (map name_of d.fragments.now) f 0 ≡ (fragment_at d f).row.name
-  name_at f low = get_or-map name_of d.fragments.now f no_stored_definition 0 low
-
-  differ : (slots : List ℕ) → Sound same_name name_hash (map name_of d.fragments.now) slots → (f g : ℕ) → f < g → g < length d.fragments.now → (fragment_at d f).row.name ≡ (fragment_at d g).row.name → ⊥
-  differ slots sound f g less low same =
-      let apart = sound.apart f g 0 less (omega (arith, length-map d.fragments.now name_of)) in
-      false≢true (sym apart ∙ eq-eqb _ _ (name_at f (omega arith) ∙ (same ∙ sym (name_at g low))))
-
-  one_name : (slots : List ℕ) → Sound same_name name_hash (map name_of d.fragments.now) slots → (f g : ℕ) → f < length d.fragments.now → g < length d.fragments.now → (fragment_at d f).row.name ≡ (fragment_at d g).row.name → f ≡ g
-  one_name slots sound f g a b same = go (cases_lt f g) (cases_lt g f)
-    where
-      go : (f < g) ⊎ (g ≤ f) → (g < f) ⊎ (f ≤ g) → f ≡ g
-      go (inl less) z = absurd (differ slots sound f g less b same)
-      go (inr z) (inl less) = absurd (differ slots sound g f less a (sym same))
-      go (inr z) (inr u) = omega arith
 
   in_shape : (slots : List ℕ) → Sound same_name name_hash (map name_of d.fragments.now) slots → InShape d
   in_shape slots sound =
       record {
-        names = one_name slots sound;
+        names = one_place d.fragments.now sound.apart;
         apart = λ f g p a b x y. one_range (length d.rows.now) d.fragments.now f g p whole.fragments a b x y;
-        within = λ f low. all_within (length d.rows.now) 0 d.fragments.now f whole.fragments low;
+        within = λ f low. (placed_at (length d.rows.now) 0 d.fragments.now f no_stored_definition whole.fragments low).within;
         ahead = row_ahead;
       }
 
@@ -186,15 +108,15 @@ module _ (d : StoredDocument) (whole : Faultless d) where
       let placed = in_place 0 (length d.rows.now) s (or_parts _ _ whole_one).1 in (
         placed.placed.within,
         λ p b.
-            let one : 1 ≤ count_by (holds p) (alone (Some s)) = counts_one p (s ∷ []) 0 (omega arith) (held s p b) in
+            let one : 1 ≤ count_by (holds p) (alone (Some s)) = counted_at (holds p) (s ∷ []) 0 (omega arith) (holds_inside p s b.0 b.1) in
             let same : 1 ≤ count_by (holds p) (alone d.anonymous) = subst (λ (x : Option StoredDefinition). 1 ≤ count_by (holds p) (alone x)) (sym there) one in
             omega arith,
       )
   operation_placed (suc n) s there =
       let is = get_or_from_slice_get d.operations.now n s no_stored_definition there in
       let low = slice_get_within d.operations.now n s there in (
-        subst (λ (x : StoredDefinition). x.row.end ≤ length d.rows.now) is (all_within (length d.rows.now) 0 d.operations.now n whole.operations low),
-        λ p b. let one = counts_one p d.operations.now n low (ap (holds p) is ∙ held s p b) in omega arith,
+        subst (λ (x : StoredDefinition). x.row.end ≤ length d.rows.now) is (placed_at (length d.rows.now) 0 d.operations.now n no_stored_definition whole.operations low).within,
+        λ p b. let one = counted_at (holds p) d.operations.now n low (ap (holds p) is ∙ holds_inside p s b.0 b.1) in omega arith,
       )
 
   apart_from : (operation : ℕ) (s : StoredDefinition) → operation_at d operation ≡ Some s → (f p : ℕ) → f < length d.fragments.now → Beneath s p → Beneath (fragment_at d f) p → ⊥
@@ -203,14 +125,14 @@ module _ (d : StoredDocument) (whole : Faultless d) where
       let own = placed.1 p b in
       let high = placed.0 in
       let behind = b.1 in
-      let one = in_one p (omega arith) in
-      let other = counts_one p d.fragments.now f low (held (fragment_at d f) p at) in
+      let one = in_one d.anonymous d.operations.now d.fragments.now d.rows.now whole p (omega arith) in
+      let other = counted_at (holds p) d.fragments.now f low (holds_inside p (fragment_at d f) at.0 at.1) in
       let sum = held_in_all p d.anonymous d.operations.now d.fragments.now _ _ _ refl refl refl in
       omega arith
 
 pub walkable : (d : IndexedDocument) (operation : ℕ) (lent : Lengths) (s : StoredDefinition) → Accepted d operation lent s → Walkable d.stored s
 walkable d operation lent s ok =
-    let whole = faultless d.stored ok.clean in
+    let whole = faultless d.stored.anonymous d.stored.operations.now d.stored.fragments.now d.stored.rows.now ok.clean in
     record {
       shape = in_shape d.stored whole d.fragment_slots.now ok.indexed.fragments;
       within = (operation_placed d.stored whole operation s ok.there).0;

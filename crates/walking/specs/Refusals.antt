@@ -5,7 +5,7 @@ use Rattle.finished_tables.specs.Indexes.{HasIndexes}
 use Rattle.stored_tables.specs.declared.definition.StoredDefinition.{StoredDefinition}
 use Rattle.stored_tables.specs.declared.stored.StoredDocument.{StoredDocument}
 use Rattle.stored_tables.specs.declared.fault.StoredFault.{StoredFault}
-use Rattle.stored_tables.specs.Verdict.{stored_fault}
+use Rattle.stored_tables.specs.Verdict.{fault_of}
 use Rattle.walking.specs.declared.judge.Lengths.{Lengths}
 use Rattle.walking.specs.declared.fault.WalkFault.{WalkFault}
 use Rattle.walking.specs.declared.fault.WalkFault.TheVariants.{TooShort, Stored, IndexUnfit, NoOperation}
@@ -20,9 +20,6 @@ list_short rows (Some long) = nat_lt long rows
 abbrev pub too_short : StoredDocument → Lengths → Bool
 too_short d lent =
     nat_lt lent.stack (33 * (length d.fragments.now + 1)) || (nat_lt lent.marks (length d.fragments.now) || list_short (length d.rows.now) lent.list)
-
-abbrev pub fault_of : StoredDocument → Option StoredFault
-fault_of d = stored_fault d.anonymous d.operations.now d.fragments.now d.rows.now
 
 -- the operation at a place: at 0 the anonymous one, at n the nth named one
 abbrev pub operation_at : StoredDocument → ℕ → Option StoredDefinition

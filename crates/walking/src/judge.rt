@@ -7,7 +7,7 @@ use finished_tables::IndexedDocument;
 use stored_tables::{StoredDefinition, StoredDocument};
 
 /// How many places of the stack are asked for each fragment, and for the operation.
-const STEPS_EACH: usize = 33;
+pub const STEPS_EACH: usize = 33;
 
 /// How much is lent to a walk: the places of the stack, the marks and, if there is one, the list.
 #[derive(Clone, Copy)]

@@ -11,4 +11,5 @@ mod turn;
 pub use fault::WalkFault;
 pub use fields::all_fields;
 pub use introspection::is_introspection;
+pub use judge::STEPS_EACH;
 pub use turn::WalkStep;

@@ -11,10 +11,11 @@ use Rattle.selection_rules.specs.declared.stored.StoredRow.{StoredRow}
 use Rattle.selection_rules.specs.Stored.{stored_in, stored_row}
 use Rattle.selection_rules.specs.Errors.{Path}
 use Rattle.selection_rules.specs.Sets.{path_to, some_row, error_of, build, errors as errors-of}
+use Rattle.stored_tables.specs.Verdict.{no_stored_row}
 use Rattle.builder.specs.declared.filled.Filled.{Filled}
 use Rattle.builder.specs.Filling.{path_of, Output, output, with_set}
 use Rattle.builder.proofs.Bounds.{some_beneath}
-use Rattle.builder.proofs.Outputs.{same_output, nothing_more, opened_with, still_open, no_stored_row, ended}
+use Rattle.builder.proofs.Outputs.{same_output, nothing_more, opened_with, still_open, ended}
 use Rattle.builder.proofs.Left.{Left, begin, finish, turn, dropped, faulty, beneath, kept, few_beneath}
 use Rattle.builder.proofs.set.+build_set.Goals as goal
 use Rattle.builder.proofs.set.+build_set.Goals.{in-Kept, in-Dropped, in-Faulty, then-not-is_leaf, else-not-is_leaf}

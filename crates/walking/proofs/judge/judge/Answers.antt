@@ -8,9 +8,10 @@ use Rattle.refusal.proofs.Firsts.{verdict_ok, verdict_err}
 use Rattle.finished_tables.specs.declared.indexed.IndexedDocument.{IndexedDocument}
 use Rattle.finished_tables.specs.Indexes.{HasIndexes}
 use Rattle.stored_tables.specs.declared.definition.StoredDefinition.{StoredDefinition}
+use Rattle.stored_tables.specs.Verdict.{fault_of}
 use Rattle.walking.specs.declared.judge.Lengths.{Lengths}
 use Rattle.walking.specs.declared.fault.WalkFault.TheVariants.{NoOperation}
-use Rattle.walking.specs.Refusals.{Accepted, Refused, too_short, fault_of, operation_at, short, faulty, unfit, absent}
+use Rattle.walking.specs.Refusals.{Accepted, Refused, too_short, operation_at, short, faulty, unfit, absent}
 use Rattle.walking.proofs.judge.judge.Goals as goal
 
 pub returns-then-are_short : goal.returns-then-are_short

@@ -1,5 +1,4 @@
 -- What is finished came out of the same calls.
-use Rattle.std.proofs.Common.{ltb, sym, ap, subst, arith}
 use Rattle.std.proofs.lemmas.Bool.{le-ltb, or_from}
 use Rattle.builder.proofs.Readings.{reads}
 use Rattle.builder.proofs.Standing.{never_stale}
