@@ -9,10 +9,7 @@ use builder::{BuilderFault, INDEX_SLOTS, MAX_FRAGMENTS, MAX_STORED_ROWS};
 use executable::{ExecutableFault, all_fields, compare};
 use schema::Schema;
 use stored_tables::Tables;
-use walking::WalkStep;
-
-/// How many places of its stack a walk asks for each fragment, and for the operation.
-const STEPS_EACH: usize = 33;
+use walking::{STEPS_EACH, WalkStep};
 
 /// Runs a script on a fresh builder: whether errors are listed then.
 pub fn lists_errors<S: Schema>(
