@@ -1,13 +1,14 @@
 // Adds the documents of a schema to builders over it, finishes what is built, and compares it.
 use crate::printer::Printer;
 use crate::refusals::Refused;
-use crate::sections::{BuilderText, DocumentText, Section};
+use crate::sections::{BuilderText, Section};
 use builder::{BuilderFault, ExecutableDocument, ExecutableDocumentBuilder};
 use executable::compare;
 use owned_tables::{OwnedTables, TableLengths};
 use schema::Schema;
 use std::alloc::AllocError;
 use stored_tables::Tables;
+use text_input::DocumentText;
 
 /// A finished document, and the tables in which it stands.
 #[derive(Drop)]

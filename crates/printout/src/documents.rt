@@ -1,12 +1,12 @@
 // Documents in words: how many rows were read, and the outline of the selections or why they are refused.
 use crate::printer::Printer;
 use crate::refusals::Refused;
-use crate::sections::{BuilderText, DocumentText, Section};
+use crate::sections::{BuilderText, Section};
 use crate::shown::Shown;
 use document::{Document, MAX_DEPTH, Needs, SelectionSet};
 use std::alloc::AllocError;
 use std::iter;
-use text_input::Counted;
+use text_input::{Counted, DocumentText};
 
 impl<'n, 'a> Printer<'n, 'a> {
     /// Adds the documents, and that they are not built, if there are any.

@@ -1,12 +1,11 @@
 // What was read of a schema, in words.
 use crate::answers::{Answered, OfKind};
-use crate::sections::TableText;
 use crate::shown::Shown;
 use refusal::UnknownNumber;
 use schema::{Answer, OperationType, Question, TypeKind};
 use std::fmt;
 use table_schema::{FieldRow, TypeRow};
-use text_input::Counted;
+use text_input::{Counted, TableText};
 
 /// The heading of a table: its types, its fields and its roots, each on a line of its own.
 impl fmt::Display for Shown<'_, '_, &TableText> {

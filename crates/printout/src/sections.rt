@@ -1,69 +1,10 @@
 // Gathers the lines of a text into sections: each has a schema, the questions to it, and documents for its builders.
-ghost use Rattle.std.specs.Prelude.{◌≡◌};
-
-use document::{DefinitionRow, Document, SelectionRow};
 use schema::Question;
 use std::alloc::{AllocError, Global};
-use table_schema::{FieldRow, SchemaRows, TypeRow};
 use text_input::{
-    DocumentHead, Line, LineReader, NameTable, ReadFault, SchemaChoice, TableHead, TextError,
+    DocumentText, Line, LineReader, NameTable, ReadFault, SchemaChoice, TableHead, TableText,
+    TextError,
 };
-
-/// The rows of a table as they were read.
-#[derive(Drop)]
-pub struct TableText {
-    pub head: TableHead,
-    pub types: Vec<TypeRow>,
-    pub fields: Vec<FieldRow>,
-}
-
-impl TableText {
-    /// All rows, lent.
-    pub fn rows(&self) -> SchemaRows<'_>
-        ensures types { result.types.now ≡ self.now.types.items }
-        ensures fields { result.fields.now ≡ self.now.fields.items }
-        ensures roots { result.roots ≡ self.now.head.roots }
-    {
-        SchemaRows {
-            types: self.types.as_slice(),
-            fields: self.fields.as_slice(),
-            roots: self.head.roots,
-        }
-    }
-
-    /// Whether all rows were read that the first line counts.
-    fn is_complete(&self) -> bool {
-        self.types.len() == self.head.types as usize
-            && self.fields.len() == self.head.fields as usize
-    }
-}
-
-/// The rows of a document as they were read.
-#[derive(Drop)]
-pub struct DocumentText {
-    pub head: DocumentHead,
-    pub definitions: Vec<DefinitionRow>,
-    pub rows: Vec<SelectionRow>,
-}
-
-impl DocumentText {
-    /// All rows, lent.
-    pub fn handed(&self) -> Document<'_>
-        ensures definitions { result.definitions.now ≡ self.now.definitions.items }
-        ensures rows { result.rows.now ≡ self.now.rows.items }
-    {
-        Document {
-            definitions: self.definitions.as_slice(),
-            rows: self.rows.as_slice(),
-        }
-    }
-
-    /// Whether all rows were read that the first line counts.
-    fn is_complete(&self) -> bool {
-        self.definitions.len() == self.head.definitions as usize
-            && self.rows.len() == self.head.rows as usize
-    }
-}
 
 /// The documents for one builder.
 #[derive(Drop)]

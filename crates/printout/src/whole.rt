@@ -2,12 +2,12 @@
 use crate::answers::Answered;
 use crate::printer::Printer;
 use crate::refusals::Refused;
-use crate::sections::{Reading, Section, TableText};
+use crate::sections::{Reading, Section};
 use crate::shown::Shown;
 use schema::{OpenSchema, Question, Schema, ask};
 use std::alloc::{AllocError, Global};
 use table_schema::{MakeFault, SchemaFault, schema_with_meta_fields};
-use text_input::{Counted, LineReader, SchemaChoice};
+use text_input::{Counted, LineReader, SchemaChoice, TableText};
 
 /// The printout of the text: each schema with the answers to its questions, its documents and what is built of them, and
 /// at the end what is wrong with the text, if anything is. Where something is, the rest of the text is not read.

@@ -10,7 +10,7 @@ mod problems;
 mod reader;
 mod word_list;
 
-pub use line_order::{Counted, DocumentHead, SchemaChoice, TableHead};
+pub use line_order::{Counted, DocumentHead, DocumentText, SchemaChoice, TableHead, TableText};
 pub use lines::Line;
 pub use name_table::NameTable;
 pub use problems::{ReadFault, TextError};
