@@ -3,6 +3,8 @@
 #![tactic(auto)]
 
 #[cfg(test)]
+mod asking;
+#[cfg(test)]
 mod index_damage;
 #[cfg(test)]
 mod index_limit;
@@ -10,6 +12,8 @@ mod index_limit;
 mod lookups;
 #[cfg(test)]
 mod numbers;
+#[cfg(test)]
+mod other_schemas;
 #[cfg(test)]
 mod row_faults;
 #[cfg(test)]
