@@ -1,5 +1,5 @@
 -- A walk over the tables of a finished document is one over the kept fields that the operation reaches.
-use Rattle.std.proofs.Common.{◌≡◌, ℕ, zero, suc, ◌↔◌, List, [], ◌∷◌, length, slice_index, Some, None, Err, sym, ap, ◌∙◌, subst, arith}
+use Rattle.std.proofs.Common.{◌≡◌, ℕ, zero, suc, Bool, ◌↔◌, List, [], ◌∷◌, length, slice_index, Some, None, Ok, Err, sym, ap, ◌∙◌, subst, arith}
 use Rattle.std.proofs.lemmas.List.{length-map}
 use Rattle.std.proofs.lemmas.Option.{get_or_from_slice_get, slice_get_within, slice_get-get_or}
 use Rattle.stored_tables.specs.declared.definition.StoredDefinition.{StoredDefinition}
@@ -7,6 +7,7 @@ use Rattle.stored_tables.specs.Layout.{those_of, latest}
 use Rattle.stored_tables.specs.Verdict.{no_stored_definition}
 use Rattle.building_rules.specs.Definitions.{Kept}
 use Rattle.building_rules.specs.Rules.{anonymous_role, named_role}
+use Rattle.building_rules.specs.Bounds.{rows_kept}
 use Rattle.finished_rules.specs.Numbers.{numbers, EntryOf}
 use Rattle.finished_rules.specs.Reaches.{Reaches as KeptReaches}
 use Rattle.finished_rules.specs.ReachesInTables.{Reaches}
@@ -15,10 +16,11 @@ use Rattle.finished_rules.proofs.Reached.{tables_reach}
 use Rattle.finished_tables.specs.declared.indexed.IndexedDocument.{IndexedDocument}
 use Rattle.walking.specs.declared.fault.WalkFault.{WalkFault}
 use Rattle.walking.specs.declared.judge.Lengths.{Lengths}
-use Rattle.walking.specs.Refusals.{operation_at, Refused, short, faulty, unfit, absent}
+use Rattle.walking.specs.Refusals.{short_for, too_short, operation_at, Refused, short, faulty, unfit, absent}
 use Rattle.walking.specs.Answers.{FieldsOf}
 use Rattle.builder.specs.Finished.{IsFinished}
-use Rattle.executable.specs.Walking.{walk_fault, IsNumbered, anonymous, named, Reached, ListsReached}
+use Rattle.builder.proofs.Kepts.{many_rows}
+use Rattle.executable.specs.Walking.{walk_fault, IsNumbered, anonymous, named, short_for_kept, KeptRefused, ListsReached}
 
 -- there is a latest of a list that is not empty
 never_none : (s : StoredDefinition) (ds : List StoredDefinition) → latest (Some s) ds ≡ None → ⊥
@@ -65,10 +67,17 @@ module _ (ks : List Kept) (x : IndexedDocument) (v : IsFinished ks x) where
       grind (arith, there, none)
 
   module _ (operation : ℕ) (lent : Lengths) (written : List ℕ → Type 0) where
-    pub fields_reached : (n : ℕ) → FieldsOf x operation lent written n → Reached ks operation written n
+    -- what is too short for the tables is so for what is kept
+    kept_short : (b : Bool) → too_short x.stored lent ≡ b → short_for_kept ks lent ≡ b
+    kept_short b is =
+        ap (λ (n : ℕ). short_for n (rows_kept ks) lent) (sym (ap length v.holds.fragments))
+        ∙ ap (λ (n : ℕ). short_for (length x.stored.fragments.now) n lent) (sym (ap length v.holds.rows ∙ many_rows 0 ks))
+        ∙ is
+
+    pub fields_reached : (n : ℕ) → FieldsOf x operation lent written n → ListsReached ks operation lent written (Ok n)
     fields_reached n of =
         let at = found operation of.definition of.accepted.there in
-        record {
+        (kept_short _ of.accepted.long, record {
           number = at.number;
           numbered = at.numbered;
           places = of.places;
@@ -76,10 +85,10 @@ module _ (ks : List Kept) (x : IndexedDocument) (v : IsFinished ks x) where
           listed = of.listed;
           once = of.lists.once;
           exactly = λ p. (λ among. (at.reaches p).0 (of.lists.sound p among), λ reached. of.lists.whole p ((at.reaches p).1 reached));
-        }
+        })
 
-    pub fields_refused : (f : WalkFault) → Refused x operation lent f → ListsReached ks operation written (Err (walk_fault f))
-    fields_refused _ (short is) = tt
+    pub fields_refused : (f : WalkFault) → Refused x operation lent f → KeptRefused ks operation lent (walk_fault f)
+    fields_refused _ (short is) = kept_short _ is
     fields_refused _ (faulty f long is) = absurd (grind (arith, is, v.clean))
     fields_refused _ (unfit long clean never) = absurd (never v.indexes)
-    fields_refused _ (absent long clean indexed none) = λ number at. missing operation number none at
+    fields_refused _ (absent long clean indexed none) = (kept_short _ long, λ number at. missing operation number none at)

@@ -1,15 +1,17 @@
 -- Walking over the fields of an operation: which refusal comes, and what is counted and listed.
-use Rattle.std.specs.Prelude.{Bool, ◌≡◌, ℕ, suc, ◌<◌, true, ◌↔◌, List, length, Ok, Err, Result, slice_index}
+use Rattle.std.specs.Prelude.{Bool, ◌≡◌, ℕ, suc, ◌<◌, true, false, ◌↔◌, List, length, Ok, Err, Result, slice_index}
 use Rattle.building_rules.specs.Definitions.{Kept}
 use Rattle.building_rules.specs.Rules.{anonymous_role, named_role}
+use Rattle.building_rules.specs.Bounds.{rows_kept}
 use Rattle.stored_tables.specs.declared.tables.Tables.{Tables}
+use Rattle.stored_tables.specs.Layout.{fragments_of}
 use Rattle.finished_rules.specs.Numbers.{has_role, numbers}
 use Rattle.finished_rules.specs.Reaches.{Reaches}
 use Rattle.finished_tables.specs.declared.indexed.IndexedDocument.{IndexedDocument}
 use Rattle.walking.specs.declared.fault.WalkFault.{WalkFault}
 use Rattle.walking.specs.declared.fault.WalkFault.TheVariants as walk
 use Rattle.walking.specs.declared.judge.Lengths.{Lengths}
-use Rattle.walking.specs.Refusals.{Refused}
+use Rattle.walking.specs.Refusals.{short_for, Refused}
 use Rattle.walking.specs.Listed.{Among, Distinct}
 use Rattle.walking.specs.Answers.{FieldsOf, IntrospectionOf}
 use Rattle.builder.specs.declared.executable.ExecutableDocument.{ExecutableDocument}
@@ -45,14 +47,23 @@ pub record Reached (ks : List Kept) (operation : ℕ) (written : List ℕ → Ty
   pub once : Distinct places
   pub exactly : (p : ℕ) → Among p places ↔ Reaches ks number p
 
--- a walk from a kept operation is refused only where what is lent to it is too short
-abbrev pub ListsReached : List Kept → ℕ → (List ℕ → Type 0) → Result ℕ ExecutableFault → Type 0
-ListsReached ks operation written (Ok n) = Reached ks operation written n
-ListsReached ks operation written (Err fault.TableTooShort) = ⊥
-ListsReached ks operation written (Err fault.WalkTooShort) = Unit {0}
-ListsReached ks operation written (Err (fault.Stored f)) = ⊥
-ListsReached ks operation written (Err fault.IndexUnfit) = ⊥
-ListsReached ks operation written (Err fault.NoOperation) = (number : ℕ) → IsNumbered ks operation number → ⊥
+-- whether what is lent is too short for a walk over what is kept
+abbrev pub short_for_kept : List Kept → Lengths → Bool
+short_for_kept ks lent = short_for (length (fragments_of 0 ks)) (rows_kept ks) lent
+
+-- why a walk over what is kept is refused: what is lent is too short; or else no operation is kept at the place
+abbrev pub KeptRefused : List Kept → ℕ → Lengths → ExecutableFault → Type 0
+KeptRefused ks operation lent fault.TableTooShort = ⊥
+KeptRefused ks operation lent fault.WalkTooShort = short_for_kept ks lent ≡ true
+KeptRefused ks operation lent (fault.Stored f) = ⊥
+KeptRefused ks operation lent fault.IndexUnfit = ⊥
+KeptRefused ks operation lent fault.NoOperation = (short_for_kept ks lent ≡ false) × ((number : ℕ) → IsNumbered ks operation number → ⊥)
+
+-- the fields are listed that the operation reaches; a walk from a kept operation is refused exactly where what is lent is too
+-- short
+abbrev pub ListsReached : List Kept → ℕ → Lengths → (List ℕ → Type 0) → Result ℕ ExecutableFault → Type 0
+ListsReached ks operation lent written (Ok n) = (short_for_kept ks lent ≡ false) × Reached ks operation written n
+ListsReached ks operation lent written (Err f) = KeptRefused ks operation lent f
 
 -- the same of a walk that tells whether the operation is introspection only
 pub data IntrospectionAnswer {S : Type 0} (d : ExecutableDocument S) (t : Tables) (operation : ℕ) (lent : Lengths) : Result Bool ExecutableFault → Type 0 where

@@ -44,7 +44,7 @@ pub fn all_fields<S: Schema>(
     ensures refused { OnErr result ((stack.new ≡ stack.old) × (marks.new ≡ marks.old) × Lent list.entry list.exit (λ old new. new ≡ old)) }
     ensures marks { OnOk result (marks.new ≡ replicate document.now.fragments 0 ++ drop document.now.fragments marks.old) }
     ensures further { drop (document.now.fragments + 1) stack.new ≡ drop (document.now.fragments + 1) stack.old }
-    ensures kept { (m : Meaning) (calls : List Call) → Finished S.Schema.meaning m calls document.now tables.now → ListsReached (kept m calls) operation (λ places. Lent list.entry list.exit (λ old new. new ≡ places ++ drop (length places) old)) result }
+    ensures kept { (m : Meaning) (calls : List Call) → Finished S.Schema.meaning m calls document.now tables.now → ListsReached (kept m calls) operation (lengths (length stack.old) (length marks.old) (lent_long list.entry)) (λ places. Lent list.entry list.exit (λ old new. new ≡ places ++ drop (length places) old)) result }
 {
     let Some(stored) = document.stored(tables) else {
         return Err(ExecutableFault::TableTooShort);

@@ -1,6 +1,6 @@
 -- What scripts come to, with no builder and no certificate in sight: whether errors are listed, whether two build the same, and
 -- which fields an operation reaches.
-use Rattle.std.specs.Prelude.{◌≡◌, ℕ, ◌+◌, ◌*◌, min, Bool, true, false, ◌||◌, ◌↔◌, List, [], ◌++◌, length, drop, replicate, Decides, Some, None, Option, Ok, Err, Result, nat_lt}
+use Rattle.std.specs.Prelude.{◌≡◌, ℕ, ◌+◌, min, Bool, true, false, ◌||◌, ◌↔◌, List, [], ◌++◌, length, drop, replicate, Decides, Some, None, Option, Ok, Err, Result}
 use Rattle.schema.specs.Meaning.{Meaning, Closed}
 use Rattle.building_rules.specs.Calls.{accepted, kept, listed_in}
 use Rattle.building_rules.specs.Rules.{Valid}
@@ -8,6 +8,8 @@ use Rattle.stored_tables.specs.declared.tables.Tables.{Tables}
 use Rattle.stored_tables.specs.Layout.{fragments_of}
 use Rattle.finished_rules.specs.Same.{EachIsSame}
 use Rattle.walking.specs.declared.turn.WalkStep.{WalkStep}
+use Rattle.walking.specs.Refusals.{short_for}
+use Rattle.walking.specs.Answers.{lengths}
 use Rattle.builder.specs.declared.progress.Progress.{Progress}
 use Rattle.builder.specs.declared.fault.BuilderFault.{BuilderFault}
 use Rattle.builder.specs.declared.fault.BuilderFault.TheVariants.{IndexUnfit}
@@ -65,9 +67,7 @@ room stack marks list = record { stack = stack; marks = marks; list = list }
 
 -- whether a stack, marks and a list are shorter than a walk over a document in these tables can need
 abbrev pub walk_short : Tables → ℕ → ℕ → ℕ → Bool
-walk_short t stack marks list =
-    nat_lt stack (33 * (min (length t.fragments.now) 256 + 1))
-    || (nat_lt marks (min (length t.fragments.now) 256) || nat_lt list (min (length t.rows.now) 16384))
+walk_short t stack marks list = short_for (min (length t.fragments.now) 256) (min (length t.rows.now) 16384) (lengths stack marks (Some list))
 
 abbrev pub room_short : Tables → Room → Bool
 room_short t r = walk_short t (length r.stack) (length r.marks) (length r.list)

@@ -15,11 +15,13 @@ abbrev pub list_short : ℕ → Option ℕ → Bool
 list_short rows None = false
 list_short rows (Some long) = nat_lt long rows
 
--- whether the stack has fewer than 33 places for each fragment and 33 more, the marks are fewer than the fragments, or the
--- list is shorter than the rows
+-- whether, for so many fragments and rows, the stack has fewer than 33 places for each fragment and 33 more, the marks are
+-- fewer than the fragments, or the list is shorter than the rows
+abbrev pub short_for : ℕ → ℕ → Lengths → Bool
+short_for fragments rows lent = nat_lt lent.stack (33 * (fragments + 1)) || (nat_lt lent.marks fragments || list_short rows lent.list)
+
 abbrev pub too_short : StoredDocument → Lengths → Bool
-too_short d lent =
-    nat_lt lent.stack (33 * (length d.fragments.now + 1)) || (nat_lt lent.marks (length d.fragments.now) || list_short (length d.rows.now) lent.list)
+too_short d lent = short_for (length d.fragments.now) (length d.rows.now) lent
 
 -- the operation at a place: at 0 the anonymous one, at n the nth named one
 abbrev pub operation_at : StoredDocument → ℕ → Option StoredDefinition
