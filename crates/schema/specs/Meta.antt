@@ -73,12 +73,12 @@ pub record MetaFieldsAdded (m : Meaning) (added : ℕ → ℕ → Result FieldDe
   pub own : (t f : ℕ) → (m.field t f ≢ Err NoSuchField) → added t f ≡ m.field t f
   -- Names other than those of the three meta-fields are answered as before.
   pub other : (t f : ℕ) → (f ≢ 4) → (f ≢ 5) → (f ≢ 6) → added t f ≡ m.field t f
-  -- Section 4.1: `__typename`, of type String, is found in every composite type, and in no other.
+  -- Section 4.1: `__typename`, of type String, is added to every composite type, and to no other.
   pub typename : (t : ℕ) → m.field t 4 ≡ Err NoSuchField → composite_kind (m.sort t) ≡ true → added t 4 ≡ Ok (defined 4097 7)
   pub typename_only : (t : ℕ) → composite_kind (m.sort t) ≡ false → added t 4 ≡ m.field t 4
   -- Section 4.2: `__schema`, of type __Schema, and `__type`, of type __Type, are found in the query root ..
   pub schema : (t : ℕ) → m.field t 5 ≡ Err NoSuchField → m.root Query ≡ Some t → added t 5 ≡ Ok (defined 4098 8)
   pub type : (t : ℕ) → m.field t 6 ≡ Err NoSuchField → m.root Query ≡ Some t → added t 6 ≡ Ok (defined 4099 9)
-  -- .. and in no other type.
+  -- .. and to no other type.
   pub schema_only : (t : ℕ) → (m.root Query ≢ Some t) → added t 5 ≡ m.field t 5
   pub type_only : (t : ℕ) → (m.root Query ≢ Some t) → added t 6 ≡ m.field t 6
