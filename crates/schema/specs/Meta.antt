@@ -76,7 +76,7 @@ pub record MetaFieldsAdded (m : Meaning) (added : ℕ → ℕ → Result FieldDe
   -- Section 4.1: `__typename`, of type String, is added to every composite type, and to no other.
   pub typename : (t : ℕ) → m.field t 4 ≡ Err NoSuchField → composite_kind (m.sort t) ≡ true → added t 4 ≡ Ok (defined 4097 7)
   pub typename_only : (t : ℕ) → composite_kind (m.sort t) ≡ false → added t 4 ≡ m.field t 4
-  -- Section 4.2: `__schema`, of type __Schema, and `__type`, of type __Type, are found in the query root ..
+  -- Section 4.2: `__schema`, of type __Schema, and `__type`, of type __Type, are added to the query root ..
   pub schema : (t : ℕ) → m.field t 5 ≡ Err NoSuchField → m.root Query ≡ Some t → added t 5 ≡ Ok (defined 4098 8)
   pub type : (t : ℕ) → m.field t 6 ≡ Err NoSuchField → m.root Query ≡ Some t → added t 6 ≡ Ok (defined 4099 9)
   -- .. and to no other type.
