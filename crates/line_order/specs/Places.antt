@@ -1,5 +1,5 @@
--- Where a line may stand among the rows of a schema and of its documents. Assumes nothing.
-use Rattle.std.specs.Prelude.{◌-◌, Bool, true, false, cond, Some, None, Option, ◌==◌, nat_lt}
+-- Where a line may stand among the rows of a schema and of its documents, and what is wrong where it may not.
+use Rattle.std.specs.Prelude.{ℕ, ◌-◌, Bool, false, cond, Some, None, Option, ◌==◌}
 use Rattle.line_order.specs.declared.keywords.Keyword.{Keyword}
 use Rattle.line_order.specs.declared.keywords.Keyword.TheVariants as keyword
 use Rattle.line_order.specs.declared.heads.DocumentHead.{DocumentHead}
@@ -7,6 +7,8 @@ use Rattle.line_order.specs.declared.heads.SchemaChoice.{SchemaChoice}
 use Rattle.line_order.specs.declared.heads.SchemaChoice.TheVariants as schema
 use Rattle.line_order.specs.declared.heads.TableHead.{TableHead}
 use Rattle.line_order.specs.declared.rows_left.RowsLeft.{RowsLeft}
+use Rattle.line_order.specs.declared.places.Misplaced.{Misplaced}
+use Rattle.line_order.specs.declared.places.Misplaced.TheVariants.{NoSchemaYet, TooManyRows, RowsMissing}
 
 -- no row is still to come
 abbrev pub complete : RowsLeft → Bool
@@ -43,24 +45,32 @@ after_line keyword.Ask left = left
 after_line keyword.Document left = left
 after_line keyword.Other left = left
 
--- A name may be given anywhere. The types come first, then the fields, then questions and documents for one builder or
--- several up to the next schema; a document's definitions come first, then its rows.
-abbrev pub may_stand : Keyword → Option RowsLeft → Bool
-may_stand keyword.Schema None = true
-may_stand keyword.Schema (Some left) = complete left
-may_stand keyword.Type None = false
-may_stand keyword.Type (Some left) = nat_lt 0 left.types
-may_stand keyword.Field None = false
-may_stand keyword.Field (Some left) = cond (left.types == 0) (nat_lt 0 left.fields) false
-may_stand keyword.Name None = true
-may_stand keyword.Name (Some left) = true
-may_stand keyword.Ask None = false
-may_stand keyword.Ask (Some left) = complete left
-may_stand keyword.Document None = false
-may_stand keyword.Document (Some left) = complete left
-may_stand keyword.Definition None = false
-may_stand keyword.Definition (Some left) = nat_lt 0 left.definitions
-may_stand keyword.Row None = false
-may_stand keyword.Row (Some left) = cond (left.definitions == 0) (nat_lt 0 left.rows) false
-may_stand keyword.Other None = false
-may_stand keyword.Other (Some left) = complete left
+-- a line with a row, before which so many others are to come, and so many of its own kind
+abbrev pub row_fault : Keyword → RowsLeft → ℕ → ℕ → Option Misplaced
+row_fault k left others own = cond (others == 0) (cond (own == 0) (Some (TooManyRows k)) None) (Some (RowsMissing k left))
+
+-- a line that stands behind all rows that were counted
+abbrev pub head_fault : Keyword → RowsLeft → Option Misplaced
+head_fault k left = cond (complete left) None (Some (RowsMissing k left))
+
+-- What is wrong with a line at this place. A name may be given anywhere. The types come first, then the fields, then questions
+-- and documents for one builder or several up to the next schema; a document's definitions come first, then its rows.
+abbrev pub place_fault : Keyword → Option RowsLeft → Option Misplaced
+place_fault keyword.Name None = None
+place_fault keyword.Name (Some left) = None
+place_fault keyword.Schema None = None
+place_fault keyword.Schema (Some left) = head_fault keyword.Schema left
+place_fault keyword.Type None = Some (NoSchemaYet keyword.Type)
+place_fault keyword.Type (Some left) = row_fault keyword.Type left 0 left.types
+place_fault keyword.Field None = Some (NoSchemaYet keyword.Field)
+place_fault keyword.Field (Some left) = row_fault keyword.Field left left.types left.fields
+place_fault keyword.Ask None = Some (NoSchemaYet keyword.Ask)
+place_fault keyword.Ask (Some left) = head_fault keyword.Ask left
+place_fault keyword.Document None = Some (NoSchemaYet keyword.Document)
+place_fault keyword.Document (Some left) = head_fault keyword.Document left
+place_fault keyword.Definition None = Some (NoSchemaYet keyword.Definition)
+place_fault keyword.Definition (Some left) = row_fault keyword.Definition left 0 left.definitions
+place_fault keyword.Row None = Some (NoSchemaYet keyword.Row)
+place_fault keyword.Row (Some left) = row_fault keyword.Row left left.definitions left.rows
+place_fault keyword.Other None = Some (NoSchemaYet keyword.Other)
+place_fault keyword.Other (Some left) = head_fault keyword.Other left

@@ -1,6 +1,7 @@
 // Where a line may stand, and what is wrong where it may not.
-ghost use Rattle.std.specs.Prelude.{◌≡◌, is_ok};
-ghost use Rattle.line_order.specs.Places.{may_stand};
+ghost use Rattle.std.specs.Prelude.{◌≡◌};
+ghost use Rattle.refusal.specs.Firsts.{verdict_of};
+ghost use Rattle.line_order.specs.Places.{place_fault};
 
 use crate::keywords::Keyword;
 use crate::rows_left::RowsLeft;
@@ -27,7 +28,7 @@ pub enum Misplaced {
 /// fields, then questions and documents for one builder or several up to the next schema; a document's definitions come first, then its rows. A
 /// name may be given anywhere.
 pub fn check_place(left: Option<RowsLeft>, keyword: Keyword) -> Result<(), Misplaced>
-    ensures { is_ok result ≡ may_stand keyword left }
+    ensures { result ≡ verdict_of (place_fault keyword left) }
 {
     let Some(left) = left else {
         return match keyword {
