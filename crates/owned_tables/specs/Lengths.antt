@@ -1,17 +1,14 @@
--- How long owned tables are.
-use Rattle.std.specs.Prelude.{length}
+-- How long the tables of a builder are where they are as long as its limits.
 use Rattle.owned_tables.specs.declared.lengths.TableLengths.{TableLengths}
-use Rattle.owned_tables.specs.declared.tables.OwnedTables.{OwnedTables}
 
--- the length of each table
-abbrev pub lengths_of : OwnedTables → TableLengths
-lengths_of t =
+abbrev pub full_lengths : TableLengths
+full_lengths =
     record {
-      operations = length t.operations.items;
-      operation_slots = length t.operation_slots.items;
-      fragments = length t.fragments.items;
-      fragment_slots = length t.fragment_slots.items;
-      rows = length t.rows.items;
-      errors = length t.errors.items;
-      path_keys = length t.path_keys.items;
+      operations = 256;
+      operation_slots = 512;
+      fragments = 256;
+      fragment_slots = 512;
+      rows = 16384;
+      errors = 16384;
+      path_keys = 131072;
     }

@@ -1,4 +1,7 @@
 // How long the tables of a builder are.
+ghost use Rattle.std.specs.Prelude.{◌≡◌};
+ghost use Rattle.owned_tables.specs.Lengths.{full_lengths};
+
 use builder::{
     INDEX_SLOTS, MAX_ERRORS, MAX_FRAGMENTS, MAX_OPERATIONS, MAX_PATH_KEYS, MAX_STORED_ROWS,
 };
@@ -26,4 +29,9 @@ impl TableLengths {
         errors: MAX_ERRORS,
         path_keys: MAX_PATH_KEYS,
     };
+
+    /// The numbers of `FULL`.
+    pub fn full_in_numbers()
+        ensures { TableLengths.FULL ≡ full_lengths }
+    {}
 }

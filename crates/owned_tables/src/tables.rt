@@ -1,11 +1,12 @@
 // The tables of a builder, owned: a Vec for each, and all of them lent as slices.
-ghost use Rattle.std.specs.Prelude.{◌≡◌, IfOk};
-ghost use Rattle.owned_tables.specs.Lengths.{lengths_of};
+ghost use Rattle.std.specs.Prelude.{◌≡◌, replicate, IfOk};
+ghost use Rattle.owned_tables.specs.Contents.{no_stored_definition, no_stored_row, no_error};
 
+use crate::fault::OwnedTablesFault;
 use crate::lengths::TableLengths;
 use document::DefinitionRow;
 use selection_rules::{BuildError, StoredRow};
-use std::alloc::{AllocError, Global};
+use std::alloc::Global;
 use stored_tables::{StoredDefinition, Tables};
 
 /// The tables of one builder, each as long as it was made. Whoever owns them may put anything into them.
@@ -22,8 +23,14 @@ pub struct OwnedTables {
 
 impl OwnedTables {
     /// Tables of these lengths, filled with what means nothing yet.
-    pub fn new(heap: Global, lengths: TableLengths) -> Result<OwnedTables, AllocError>
-        ensures { IfOk result (λ tables. lengths_of tables ≡ lengths) }
+    pub fn new(heap: Global, lengths: TableLengths) -> Result<OwnedTables, OwnedTablesFault>
+        ensures operations { IfOk result (λ made. made.operations.items ≡ replicate lengths.operations no_stored_definition) }
+        ensures operation_slots { IfOk result (λ made. made.operation_slots.items ≡ replicate lengths.operation_slots 0) }
+        ensures fragments { IfOk result (λ made. made.fragments.items ≡ replicate lengths.fragments no_stored_definition) }
+        ensures fragment_slots { IfOk result (λ made. made.fragment_slots.items ≡ replicate lengths.fragment_slots 0) }
+        ensures rows { IfOk result (λ made. made.rows.items ≡ replicate lengths.rows no_stored_row) }
+        ensures errors { IfOk result (λ made. made.errors.items ≡ replicate lengths.errors no_error) }
+        ensures path_keys { IfOk result (λ made. made.path_keys.items ≡ replicate lengths.path_keys 0) }
     {
         let definition = StoredDefinition {
             row: DefinitionRow::default(),

@@ -7,6 +7,7 @@ use builder::{BuilderFault, ExecutableDocument, ExecutableDocumentBuilder};
 use executable::compare;
 use owned_tables::{OwnedTables, TableLengths};
 use schema::{OpenSchema, Schema};
+use std::alloc::AllocError;
 use std::io;
 use stored_tables::Tables;
 use table_schema::schema_with_meta_fields;
@@ -43,7 +44,8 @@ fn print_side<'s, S: Schema>(
     schema: &'s S,
     side: &Side,
 ) -> io::Result<Option<Finished<'s, S>>> {
-    let mut owned = OwnedTables::new(rt.alloc(), side.tables.unwrap_or(TableLengths::FULL))?;
+    let lengths = side.tables.unwrap_or(TableLengths::FULL);
+    let mut owned = OwnedTables::new(rt.alloc(), lengths).map_err(AllocError::from)?;
     let mut tables = owned.lend();
     let builder = match ExecutableDocumentBuilder::new(schema, &mut tables) {
         Ok(builder) => builder,

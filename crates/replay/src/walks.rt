@@ -5,6 +5,7 @@ use builder::ExecutableDocument;
 use executable::{all_fields, is_introspection};
 use owned_tables::WalkTables;
 use schema::Schema;
+use std::alloc::AllocError;
 use std::io;
 use stored_tables::Tables;
 
@@ -60,7 +61,7 @@ pub fn print_walks<S: Schema>(
     let Some(stored) = document.stored(tables).map(|indexed| indexed.stored) else {
         return Ok(());
     };
-    let mut lent = WalkTables::new(rt.alloc())?;
+    let mut lent = WalkTables::new(rt.alloc()).map_err(AllocError::from)?;
     let first = usize::from(stored.anonymous.is_none());
     for operation in first..=stored.operations.len() {
         print_fields(rt, document, tables, operation, &mut lent)?;
