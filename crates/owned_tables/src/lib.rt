@@ -2,11 +2,13 @@
 #![tactic(auto)]
 
 mod fault;
+mod finished;
 mod lengths;
 mod tables;
 mod walks;
 
 pub use fault::{OwnedTablesFault, WalkTablesFault};
+pub use finished::OwnedDocument;
 pub use lengths::TableLengths;
 pub use tables::OwnedTables;
 pub use walks::WalkTables;

@@ -4,18 +4,11 @@ use crate::refusals::Refused;
 use crate::sections::{BuilderText, Section};
 use builder::{BuilderFault, ExecutableDocument, ExecutableDocumentBuilder};
 use executable::compare;
-use owned_tables::{OwnedTables, TableLengths};
+use owned_tables::{OwnedDocument, OwnedTables, TableLengths};
 use schema::Schema;
 use std::alloc::AllocError;
 use stored_tables::Tables;
 use text_input::DocumentText;
-
-/// A finished document, and the tables in which it stands.
-#[derive(Drop)]
-struct Finished<'s, S> {
-    tables: OwnedTables,
-    document: ExecutableDocument<'s, S>,
-}
 
 impl<'n, 'a> Printer<'n, 'a> {
     /// Adds what is built of the documents, whichever schema it is: by the first builder, and by each other one with
@@ -41,7 +34,7 @@ impl<'n, 'a> Printer<'n, 'a> {
         &mut self,
         schema: &'s S,
         text: &BuilderText,
-    ) -> Result<Option<Finished<'s, S>>, AllocError> {
+    ) -> Result<Option<OwnedDocument<'s, S>>, AllocError> {
         let mut owned = OwnedTables::new(self.heap, TableLengths::FULL)?;
         let mut tables = owned.lend();
         let builder = match ExecutableDocumentBuilder::new(schema, &mut tables) {
@@ -52,7 +45,7 @@ impl<'n, 'a> Printer<'n, 'a> {
             }
         };
         let document = self.finished(builder, &mut tables, text.complete_documents())?;
-        Ok(Some(Finished {
+        Ok(Some(OwnedDocument {
             tables: owned,
             document,
         }))
@@ -95,8 +88,8 @@ impl<'n, 'a> Printer<'n, 'a> {
     /// Adds whether the finished document is the same as the first.
     fn comparison<S: Schema>(
         &mut self,
-        first: &mut Finished<'_, S>,
-        other: &mut Finished<'_, S>,
+        first: &mut OwnedDocument<'_, S>,
+        other: &mut OwnedDocument<'_, S>,
     ) -> Result<(), AllocError> {
         let compared = compare(
             &first.document,

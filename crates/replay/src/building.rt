@@ -5,19 +5,12 @@ use crate::refused::print_refusal;
 use crate::walks::print_walks;
 use builder::{BuilderFault, ExecutableDocument, ExecutableDocumentBuilder};
 use executable::compare;
-use owned_tables::{OwnedTables, TableLengths};
+use owned_tables::{OwnedDocument, OwnedTables, TableLengths};
 use schema::{OpenSchema, Schema};
 use std::alloc::AllocError;
 use std::io;
 use stored_tables::Tables;
 use table_schema::schema_with_meta_fields;
-
-/// The finished document of a side, and the tables in which it stands.
-#[derive(Drop)]
-struct Finished<'s, S> {
-    tables: OwnedTables,
-    document: ExecutableDocument<'s, S>,
-}
 
 // Adds the documents of a side to a builder of its own, prints what is built, and finishes it.
 fn build_side<'s, S: Schema>(
@@ -43,7 +36,7 @@ fn print_side<'s, S: Schema>(
     rt: &HostRuntime,
     schema: &'s S,
     side: &Side,
-) -> io::Result<Option<Finished<'s, S>>> {
+) -> io::Result<Option<OwnedDocument<'s, S>>> {
     let lengths = side.tables.unwrap_or(TableLengths::FULL);
     let mut owned = OwnedTables::new(rt.alloc(), lengths).map_err(AllocError::from)?;
     let mut tables = owned.lend();
@@ -55,7 +48,7 @@ fn print_side<'s, S: Schema>(
         }
     };
     let document = build_side(rt, builder, &mut tables, side)?;
-    Ok(Some(Finished {
+    Ok(Some(OwnedDocument {
         tables: owned,
         document,
     }))
@@ -64,8 +57,8 @@ fn print_side<'s, S: Schema>(
 // Prints whether the documents of two sides are the same.
 fn print_equal<S: Schema>(
     rt: &HostRuntime,
-    a: &mut Finished<'_, S>,
-    b: &mut Finished<'_, S>,
+    a: &mut OwnedDocument<'_, S>,
+    b: &mut OwnedDocument<'_, S>,
 ) -> io::Result<()> {
     match compare(&a.document, &a.tables.lend(), &b.document, &b.tables.lend()) {
         Ok(equal) => {
