@@ -1,3 +1,4 @@
+-- A key that is there already is a repeated one.
 use Rattle.std.proofs.Common.{is_some, Some, None, ap}
 use Rattle.refusal.specs.Firsts.{verdict_of}
 use Rattle.ordered_index.proofs.Firsts.{located_place}

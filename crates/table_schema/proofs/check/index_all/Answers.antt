@@ -1,3 +1,4 @@
+-- Each turn judges one row and enters its key.
 use Rattle.std.proofs.Common.{◌≡◌, ◌+◌, ◌-◌, List, length, take, [], ◌∷◌, ◌++◌, Some, Err, slice_get, sym, ap, ◌∙◌, subst, arith}
 use Rattle.std.specs.Option.{option_and_then}
 use Rattle.std.proofs.lemmas.Option.{slice_get-get_or}

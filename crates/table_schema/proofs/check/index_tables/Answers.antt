@@ -1,3 +1,4 @@
+-- The types that were indexed are found by their names.
 use Rattle.ordered_index.specs.Keys.{same_name, name_hash}
 use Rattle.ordered_index.specs.Laws.{name_lawful}
 use Rattle.table_schema.specs.Keys.{type_key}

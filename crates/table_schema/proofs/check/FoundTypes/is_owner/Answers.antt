@@ -1,3 +1,4 @@
+-- The place that is found is that of the type, so its kind is read there.
 use Rattle.std.proofs.Common.{◌<◌, length, Some, refl, rules}
 use Rattle.ordered_index.specs.Keys.{same_name, name_hash}
 use Rattle.table_schema.specs.Keys.{type_key}
