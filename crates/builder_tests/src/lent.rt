@@ -136,77 +136,18 @@ pub fn row_numbers(row: &StoredRow) -> [u32; 12] {
     ]
 }
 
-// What an error carries, the path last.
+// What an error carries, the path last. A case has one of the two members that share a place, or neither.
 pub fn error_numbers(error: BuildError) -> [u32; 9] {
-    let code = error.code();
-    match error {
-        BuildError::TypeSystemDefinition {
-            location,
-            name,
-            kind,
-        } => [code, location, name, kind, 0, 0, 0, 0, 0],
-        BuildError::AmbiguousAnonymousOperation { location } => {
-            [code, location, 0, 0, 0, 0, 0, 0, 0]
-        }
-        BuildError::OperationNameCollision {
-            location,
-            name,
-            previous_location,
-        }
-        | BuildError::FragmentNameCollision {
-            location,
-            name,
-            previous_location,
-        } => [code, location, name, previous_location, 0, 0, 0, 0, 0],
-        BuildError::UndefinedRootOperation {
-            location,
-            operation_type,
-        } => [code, location, operation_type.number(), 0, 0, 0, 0, 0, 0],
-        BuildError::UndefinedTypeInNamedFragmentTypeCondition {
-            location,
-            type_name,
-            fragment_name,
-        } => [code, location, type_name, fragment_name, 0, 0, 0, 0, 0],
-        BuildError::UndefinedTypeInInlineFragmentTypeCondition {
-            location,
-            type_name,
-            path,
-        }
-        | BuildError::SubselectionOnScalarType {
-            location,
-            type_name,
-            path,
-        }
-        | BuildError::SubselectionOnEnumType {
-            location,
-            type_name,
-            path,
-        } => with_path([code, location, type_name, 0], path),
-        BuildError::UndefinedField {
-            location,
-            type_name,
-            field_name,
-            path,
-        } => with_path([code, location, type_name, field_name], path),
-    }
-}
-
-fn with_path(members: [u32; 4], path: SelectionPath) -> [u32; 9] {
-    let [code, location, type_name, field_name] = members;
-    let (kind, operation, name) = match path.root {
-        ExecutableDefinitionName::AnonymousOperation(operation) => (1, operation.number(), 0),
-        ExecutableDefinitionName::NamedOperation(operation, name) => (2, operation.number(), name),
-        ExecutableDefinitionName::Fragment(name) => (3, 0, name),
-    };
+    let told = error.numbers();
     [
-        code,
-        location,
-        type_name,
-        field_name,
-        kind,
-        operation,
-        name,
-        path.first_key,
-        path.end_key,
+        told.code,
+        told.location,
+        told.first_name | told.operation_type,
+        told.second_name | told.kind | told.second_location,
+        told.path.root.kind,
+        told.path.root.operation_type,
+        told.path.root.name,
+        told.path.first_key,
+        told.path.end_key,
     ]
 }

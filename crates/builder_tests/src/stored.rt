@@ -103,14 +103,14 @@ const FAULTY: [[u32; 5]; 10] = [
 
 // The errors, and the response keys of their paths.
 const FAULTS: [([u32; 9], &'static [u32]); 5] = [
-    ([7, 301, NOWHERE, 0, 2, 0, 30, 0, 1], &[70]),
-    ([8, 104, ID, 0, 2, 0, 30, 1, 4], &[70, 71, 72]),
+    ([7, 301, NOWHERE, 0, 1, 0, 30, 0, 1], &[70]),
+    ([8, 104, ID, 0, 1, 0, 30, 1, 4], &[70, 71, 72]),
     (
-        [10, 206, METER, NOWHERE, 2, 0, 30, 4, 7],
+        [10, 206, METER, NOWHERE, 1, 0, 30, 4, 7],
         &[70, 71, NOWHERE],
     ),
-    ([9, 107, UNIT, 0, 2, 0, 30, 7, 9], &[70, UNIT_FIELD]),
-    ([10, 209, QUERY, NOWHERE, 2, 0, 30, 9, 11], &[70, 73]),
+    ([9, 107, UNIT, 0, 1, 0, 30, 7, 9], &[70, UNIT_FIELD]),
+    ([10, 209, QUERY, NOWHERE, 1, 0, 30, 9, 11], &[70, 73]),
 ];
 
 // A field's locations are its place and 100, and 200 for its name; an inline fragment's condition stands at 300.

@@ -1,3 +1,4 @@
+-- The definitions that the contracts of the crate cite, in the order in which they are needed.
 pub mod Law
 pub mod Slots
 pub mod Sound

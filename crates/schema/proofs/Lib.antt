@@ -1,1 +1,2 @@
+-- The lemmas of the crate, in the order in which they are needed.
 mod Rows

@@ -1,3 +1,4 @@
+-- What is read back from the tables is what is kept.
 use Rattle.finished_rules.proofs.Tables.{tables_read_back}
 use Rattle.finished_rules.proofs.tables_are_read_back.Goals as goal
 

@@ -1,3 +1,4 @@
+-- The table of the meters is a schema, and a closed one.
 use Rattle.queries.proofs.Schema.{meters_are_a_schema}
 use Rattle.queries.proofs.the_meters_are_a_schema.Goals as goal
 

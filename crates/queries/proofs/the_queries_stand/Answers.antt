@@ -1,3 +1,4 @@
+-- Each query comes to what its table says.
 use Rattle.queries.proofs.Computed.{all_stand}
 use Rattle.queries.proofs.the_queries_stand.Goals as goal
 

@@ -1,3 +1,4 @@
+-- Each turn is one round more.
 use Rattle.std.proofs.Common.{◌≡◌, ℕ, suc, ◌+◌, ◌-◌, refl, subst, arith}
 use Rattle.timing.specs.Rounds.{After}
 use Rattle.timing.proofs.go_round.Given as given

@@ -1,3 +1,4 @@
+-- Each turn compares the first row of both sets, with what stands beneath it.
 use Rattle.std.proofs.Common.{◌<◌, refl, eq-eqb, eqb-true, arith}
 use Rattle.std.proofs.lemmas.Bool.{false≢true}
 use Rattle.comparison.proofs.Turns.{rooted, begin, first_a, first_b, first_same, turn, finished}

@@ -1,3 +1,4 @@
+-- What is left of both sets decides, and the rows beneath and to come grow fewer.
 use Rattle.std.proofs.Common.{◌+◌, ◌-◌, ◌*◌}
 use Rattle.comparison.specs.Ranged.{row_at}
 use Rattle.comparison.proofs.Turns.{Left}

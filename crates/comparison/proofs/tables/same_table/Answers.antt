@@ -1,3 +1,4 @@
+-- Each turn matches one definition with the one of its name in the other table.
 use Rattle.std.proofs.Common.{below_more, refl, arith}
 use Rattle.std.proofs.lemmas.Bool.{false≢true}
 use Rattle.std.proofs.lemmas.List.{length-map}

@@ -1,3 +1,4 @@
+-- Each turn finds the fault of one definition, or goes on.
 use Rattle.std.proofs.Common.{◌≡◌, ◌+◌, refl, sym, ◌∙◌, rules}
 use Rattle.std.proofs.lemmas.Result.{err_from_is_err_and}
 use Rattle.refusal.proofs.Firsts.{is_fine, is_fault}

@@ -1,3 +1,4 @@
+-- The rows before were searched, and those beneath and to come grow fewer.
 use Rattle.std.proofs.Common.{◌-◌, map}
 use Rattle.layout.proofs.Windows.{Searched}
 use Rattle.layout.proofs.check.+check_set.Given as goal

@@ -1,3 +1,4 @@
+-- The row that is told is one of the rows.
 use Rattle.std.proofs.Common.{◌-◌, map, length, arith}
 use Rattle.layout.specs.Places.{fault_in}
 use Rattle.layout.proofs.Windows.{inside_rows}

@@ -1,3 +1,4 @@
+-- The five tests together decide whether the slots are a sound index.
 use Rattle.std.proofs.Common.{◌≡◌, ℕ, ◌≤◌, true, map, length, get_or, sym, ◌∙◌, arith}
 use Rattle.std.proofs.lemmas.List.{length-map}
 use Rattle.std.proofs.lemmas.Bool.{false≢true, eqb-true, leb-true}

@@ -1,3 +1,4 @@
+-- What holds of each slot holds at every place, since past the last a slot reads 0.
 use Rattle.std.proofs.Common.{ℕ, ◌<◌, ◌≤◌, Bool, true, false, List, length, get_or, Decides, MatchBool, refl, ⊎_elim, rules, arith}
 use Rattle.std.specs.List.{AllWithin, HoldsAt}
 use Rattle.std.proofs.lemmas.Bool.{cases_lt, false≢true}

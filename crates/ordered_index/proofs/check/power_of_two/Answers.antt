@@ -1,3 +1,4 @@
+-- A power of two is a number with one bit.
 use Rattle.std.proofs.Common.{sym, ◌∙◌}
 use lib.Count.{ones}
 use Rattle.std.proofs.lemmas.Bool.{eqb-true, eq-eqb}

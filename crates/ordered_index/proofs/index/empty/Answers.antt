@@ -1,3 +1,4 @@
+-- Empty slots are a sound index of no key.
 use Rattle.std.proofs.Common.{◌≡◌, ℕ, [], List, length, replicate, sym, subst}
 use Rattle.ordered_index.specs.Sound.{Sound}
 use Rattle.ordered_index.proofs.Rounds.{sound_none}

@@ -1,3 +1,4 @@
+-- Where the probe ends decides what is entered, and the index stays sound.
 use Rattle.std.proofs.Common.{◌≡◌, ◌<◌, true, false, map, length, sym, refl, arith, rules}
 use Rattle.std.proofs.lemmas.Bool.{cond-true, cond-false, lt-ltb, le-ltb}
 use Rattle.ordered_index.specs.Slots.{limit}

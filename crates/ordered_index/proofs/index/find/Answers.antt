@@ -1,3 +1,4 @@
+-- Where the probe ends is the place of the key, or it has none.
 use Rattle.std.proofs.Common.{map, Some, None, refl, ap, ⊎_elim}
 use Rattle.ordered_index.specs.Probing.{found_at}
 use Rattle.ordered_index.proofs.Enters.{finding}

@@ -1,3 +1,4 @@
+-- With the new entry at its place the index is sound again.
 use Rattle.ordered_index.proofs.Enters.{inserting}
 use Rattle.ordered_index.proofs.index.insert.Goals as goal
 

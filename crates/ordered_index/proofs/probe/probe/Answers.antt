@@ -1,3 +1,4 @@
+-- Each turn looks at one slot, and goes on to the next.
 use Rattle.std.proofs.Common.{◌≡◌, ℕ, ◌+◌, ◌-◌, ◌<◌, map, length, get_or, sym, ap, ◌∙◌, subst, mod-lt, arith}
 use Rattle.ordered_index.specs.Probing.{names, probe}
 use Rattle.ordered_index.proofs.Probes.{probe_found, probe_next, names_read, names_none}

@@ -1,8 +1,8 @@
+-- What is left to look at gives what all slots give.
 use Rattle.std.proofs.Common.{◌≡◌, ◌-◌, ◌<◌, map, length}
 use Rattle.ordered_index.specs.Probing.{probe, probe_for}
 use Rattle.ordered_index.proofs.probe.probe.Given as goal
 
--- what is left to look at gives what all slots give
 abbrev pub invariant-loop-step : goal.invariant-loop-step
 invariant-loop-step g l =
     let keys = map g.E.Entry.keyed l.entries in

@@ -1,3 +1,4 @@
+-- The row that is found is the first one of the name.
 use Rattle.std.proofs.Common.{rules, ◌∙◌}
 use Rattle.std.proofs.lemmas.Iterator.{first_from_find, YieldsList-from_slice}
 use borrow.Author.Tests.{tests}

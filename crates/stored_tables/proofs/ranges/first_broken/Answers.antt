@@ -1,3 +1,4 @@
+-- Each turn judges one definition, after the end of the one before it.
 use Rattle.std.proofs.Common.{◌≡◌, ◌+◌, ◌-◌, true, false, length, sym, ◌∙◌, refl, ap, add-one, arith}
 use Rattle.std.proofs.lemmas.Bool.{or_left, or_right, or_from, not_from_true, not_from_false}
 use Rattle.stored_tables.specs.Verdict.{whole_as, misplaced, definition_at, broken_definition}

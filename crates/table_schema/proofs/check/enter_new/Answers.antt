@@ -1,3 +1,4 @@
+-- A key that is there already is a repeated one.
 use Rattle.std.proofs.Common.{is_some, Some, None, ap}
 use Rattle.ordered_index.proofs.Firsts.{located_place}
 use Rattle.table_schema.proofs.check.enter_new.Goals as goal

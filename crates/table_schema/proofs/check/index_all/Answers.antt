@@ -1,3 +1,4 @@
+-- Each turn judges one row and enters its key.
 use Rattle.std.proofs.Common.{◌+◌, ◌-◌, List, length, [], ◌∷◌, ◌++◌, Err, sym, ap, ◌∙◌, subst, arith}
 use Rattle.ordered_index.specs.Sound.{Sound, keys_of}
 use Rattle.ordered_index.proofs.Firsts.{keys_more}

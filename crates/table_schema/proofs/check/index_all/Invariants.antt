@@ -1,10 +1,10 @@
+-- The rows so far are indexed, and the rows to come have the first fault.
 use Rattle.std.proofs.Common.{◌≡◌, ◌-◌, length}
 use Rattle.ordered_index.specs.Sound.{Sound, keys_of}
 use Rattle.refusal.specs.Firsts.{first_fault}
 use Rattle.table_schema.specs.Verdict.{fault_at}
 use Rattle.table_schema.proofs.check.index_all.Given as goal
 
--- the rows so far are indexed, and the rows to come have the first fault
 abbrev pub invariant-loop-i : goal.invariant-loop-i
 invariant-loop-i g l =
     let row = g.R.SchemaRow in

@@ -1,3 +1,4 @@
+-- Slots that are lent empty index no row, and a refusal leaves them so.
 use Rattle.std.proofs.Common.{◌≡◌, true, Ok, Err, Result, MatchResult, sym, refl, ◌∙◌}
 use Rattle.std.specs.Result.{is_err}
 use Rattle.std.proofs.lemmas.Bool.{false≢true}

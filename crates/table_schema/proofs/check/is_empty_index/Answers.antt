@@ -1,3 +1,4 @@
+-- Slots that are all 0, and so many, are an empty index.
 use Rattle.std.proofs.Common.{length, sym, ap, ◌∙◌, ◌&&◌, ◌==◌, rules}
 use Rattle.std.proofs.lemmas.Bool.{eq-eqb}
 use Rattle.std.proofs.lemmas.Iterator.{YieldsList-from_slice}

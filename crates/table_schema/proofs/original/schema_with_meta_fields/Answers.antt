@@ -1,3 +1,4 @@
+-- The table that was made, with the meta-fields added.
 use Rattle.schema.specs.Meta.{with_meta}
 use Rattle.table_schema.proofs.original.schema_with_meta_fields.Goals as goal
 

@@ -1,3 +1,4 @@
+-- Each step adds the keys of one selection and of those beneath it, without overflow.
 use Rattle.std.proofs.Common.{◌≡◌, refl, ap, ◌∙◌, arith, rules}
 use Rattle.std.specs.Iterator.Adapters.{take_source, take_count, successors_next, successors_callee}
 use Rattle.document.specs.Sets.{next_of}

@@ -1,3 +1,4 @@
+-- The set grows shorter, and its rest adds up with the sum.
 use Rattle.std.proofs.Common.{◌≡◌, ◌+◌, ◌-◌, ◌≤◌}
 use Rattle.std.specs.Iterator.Adapters.{take_source, take_count, successors_next, successors_callee}
 use Rattle.layout.specs.Forest.{Forest, depth}

@@ -1,3 +1,4 @@
+-- The checks come in their order, and tables without a fault are one document.
 use Rattle.std.proofs.Common.{◌≡◌, length, map, sym, ◌∙◌}
 use Rattle.std.proofs.lemmas.Result.{err_from_is_err_and}
 use Rattle.refusal.specs.Firsts.{or_else, verdict_of}

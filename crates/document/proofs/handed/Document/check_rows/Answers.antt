@@ -1,3 +1,4 @@
+-- Each turn checks the rows of one definition.
 use Rattle.std.proofs.Common.{◌+◌, eqb, map, length, get_or, drop, None, sym, ap, ◌∙◌}
 use Rattle.refusal.specs.Firsts.{or_else}
 use Rattle.refusal.proofs.Firsts.{verdict_ok, is_fine}

@@ -1,3 +1,4 @@
+-- What is counted of the rows is what the one document needs.
 use Rattle.std.proofs.Common.{◌≡◌, ℕ, length, count_by, sym, ap, ◌∙◌, arith}
 use Rattle.std.proofs.lemmas.Result.{err_from_is_err_and}
 use Rattle.refusal.proofs.Firsts.{verdict_ok, verdict_err}

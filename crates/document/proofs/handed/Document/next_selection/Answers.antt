@@ -1,3 +1,4 @@
+-- What is read of a set is the first row of its forest.
 use Rattle.std.proofs.Common.{◌≡◌, Some, rules, subst}
 use Rattle.document.specs.Sets.{step_at, next_of, Follows}
 use Rattle.document.proofs.Sets.{next_follows}

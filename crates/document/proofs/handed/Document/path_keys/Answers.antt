@@ -1,3 +1,4 @@
+-- Each turn adds the keys of one definition, without overflow.
 use Rattle.std.proofs.Common.{arith}
 use Rattle.document.proofs.Keys.{keys_at, keys_past}
 use Rattle.document.proofs.handed.Document.path_keys.Goals as goal

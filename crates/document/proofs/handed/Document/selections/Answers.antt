@@ -1,3 +1,4 @@
+-- The set of a definition stands for its selections, and past the last for none.
 use Rattle.std.proofs.Common.{◌≡◌, ◌<◌, length, get_or, rules, subst}
 use Rattle.document.specs.declared.handed.sets.SelectionSet.{SelectionSet}
 use Rattle.document.specs.Document.{no_definition}

@@ -1,3 +1,4 @@
+-- The eleven numbers are the members in their order.
 use Rattle.std.proofs.Common.{◌≡◌, ℕ, List, [], ◌∷◌, length, get_or, ap, arith}
 use Rattle.std.proofs.lemmas.Grind.{common_steps}
 use Rattle.document.proofs.rows.DefinitionRowFromArrayU3211.from.Goals as goal

@@ -1,3 +1,4 @@
+-- The levels that are left grow fewer.
 use Rattle.std.proofs.Common.{◌-◌}
 use Rattle.printout.proofs.printer.Printer.+stored_set.Given as goal
 

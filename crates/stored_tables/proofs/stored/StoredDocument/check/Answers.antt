@@ -1,3 +1,4 @@
+-- The ranges of each table are in order before the rows are looked at, and no place is past 64 bits.
 use Rattle.std.proofs.Common.{length, sym, ◌∙◌, arith}
 use Rattle.document.specs.declared.kinds.DefinitionKind.TheVariants.{Operation, Fragment}
 use Rattle.stored_tables.specs.Verdict.{whole_as}

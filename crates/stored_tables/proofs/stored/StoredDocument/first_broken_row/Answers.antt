@@ -1,3 +1,4 @@
+-- The first stray row and the first misfits of each table give the first row that breaks the layout.
 use Rattle.std.proofs.Common.{map, length, ap, sym, ◌∙◌}
 use Rattle.selection_rules.specs.Stored.{stored_view}
 use Rattle.stored_tables.specs.Verdict.{alone}

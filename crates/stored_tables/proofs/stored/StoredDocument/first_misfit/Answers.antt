@@ -1,3 +1,4 @@
+-- Each turn looks at the range of one definition.
 use Rattle.std.proofs.Common.{map, length}
 use Rattle.std.proofs.lemmas.List.{drop_all}
 use Rattle.selection_rules.specs.Stored.{stored_view}

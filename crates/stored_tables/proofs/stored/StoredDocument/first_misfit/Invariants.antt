@@ -1,3 +1,4 @@
+-- What was found, and what the definitions to come have, is what all of them have.
 use Rattle.std.proofs.Common.{◌≡◌, ℕ, List, Option, map, length, drop}
 use Rattle.selection_rules.specs.Stored.{stored_view}
 use Rattle.stored_tables.specs.declared.definition.StoredDefinition.{StoredDefinition}
@@ -5,7 +6,6 @@ use Rattle.stored_tables.specs.Verdict.{first_place, unfit_in}
 use Rattle.stored_tables.specs.Ranges.{InOrder, earlier}
 use Rattle.stored_tables.proofs.stored.StoredDocument.first_misfit.Given as goal
 
--- what was found, and what the definitions to come have, is what all of them have
 abbrev pub invariant-loop-definition : goal.invariant-loop-definition
 invariant-loop-definition l =
     let rows = l.self.rows.now in

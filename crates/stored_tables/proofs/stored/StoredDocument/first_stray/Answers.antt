@@ -1,3 +1,4 @@
+-- Each turn counts the ranges of one row: only the first that is left of each table can hold it.
 use Rattle.std.proofs.Common.{◌≡◌, ◌+◌, ◌-◌, true, false, length, sym, ◌∙◌, refl, eq-eqb, arith}
 use Rattle.std.proofs.lemmas.Bool.{ne_eqb, not_from_true, not_from_false}
 use Rattle.stored_tables.specs.Verdict.{all_stored, stray}

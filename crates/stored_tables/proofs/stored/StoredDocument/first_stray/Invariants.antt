@@ -1,9 +1,9 @@
+-- What is left of each table counts for the rows to come, which have the first stray row of all.
 use Rattle.std.proofs.Common.{◌≡◌, ◌-◌, length}
 use Rattle.stored_tables.specs.Verdict.{first_place, all_stored, stray}
 use Rattle.stored_tables.proofs.Following.{Left}
 use Rattle.stored_tables.proofs.stored.StoredDocument.first_stray.Given as goal
 
--- what is left of each table counts for the rows to come, which have the first stray row of all
 abbrev pub invariant-loop-row : goal.invariant-loop-row
 invariant-loop-row l =
     let rows = length l.self.rows.now in

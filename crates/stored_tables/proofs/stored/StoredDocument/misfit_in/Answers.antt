@@ -1,3 +1,4 @@
+-- What the layout's check finds in the range is the first row that does not fit it.
 use Rattle.std.proofs.Common.{map, length}
 use Rattle.selection_rules.specs.Stored.{stored_view}
 use Rattle.stored_tables.proofs.Misfits.{no_misfit, some_misfit, misfit_above}

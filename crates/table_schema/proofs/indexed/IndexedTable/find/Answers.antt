@@ -1,3 +1,4 @@
+-- The entry at the place that is found is the first one that has the key.
 use Rattle.std.proofs.Common.{None, Some, sym, ap, ◌∙◌}
 use Rattle.std.specs.Option.{option_copied}
 use Rattle.table_schema.proofs.Founds.{found_place, with_none, read_at}

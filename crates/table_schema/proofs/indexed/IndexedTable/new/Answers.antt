@@ -1,3 +1,4 @@
+-- A sound index finds each key.
 use Rattle.table_schema.proofs.Founds.{finds_all}
 use Rattle.table_schema.proofs.indexed.IndexedTable.new.Goals as goal
 

@@ -1,3 +1,4 @@
+-- Rows are refused at their first fault, and else the copies mean what the rows mean.
 use Rattle.std.proofs.Common.{◌≡◌, ℕ, false, List, map, Some, Ok, Err, Result, vec_items, sym, ap, ◌∙◌, subst}
 use Rattle.std.specs.Result.{IsErrAnd}
 use Rattle.std.proofs.lemmas.List.{with_items_is}

@@ -1,3 +1,4 @@
+-- The kind is that of the first type of the name.
 use Rattle.std.proofs.Common.{◌≡◌, ℕ, Some, None, Option, vec_items, sym, refl, ap, ◌∙◌}
 use Rattle.std.specs.Result.{result_ok}
 use Rattle.refusal.specs.Numbered.{case_or_unknown}

@@ -1,3 +1,4 @@
+-- A type is known exactly when one of the name is found.
 use Rattle.std.proofs.Common.{vec_items, Option, Bor, is_some, Some, None, ap, refl, ◌≡◌, ◌∙◌}
 use Rattle.std.specs.Option.{option_copied}
 use Rattle.ordered_index.specs.Keys.{same_name}

@@ -1,3 +1,4 @@
+-- A field that is found has an owner that is known.
 use Rattle.std.proofs.Common.{vec_items, sym, ap, ◌∙◌}
 use Rattle.std.proofs.lemmas.Bool.{cond-true}
 use Rattle.table_schema.specs.Kept.{entry_told}
