@@ -2,7 +2,7 @@
 use builder::{MAX_ERRORS, MAX_FRAGMENTS, MAX_OPERATIONS, MAX_PATH_KEYS, MAX_STORED_ROWS};
 use document::DefinitionRow;
 use owned_tables::{OwnedTables, TableLengths};
-use selection_rules::{BuildError, ExecutableDefinitionName, SelectionPath, StoredRow};
+use selection_rules::{BuildError, StoredRow};
 use std::alloc::{AllocError, Global};
 use stored_tables::{StoredDefinition, Tables};
 

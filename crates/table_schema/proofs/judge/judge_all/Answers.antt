@@ -1,3 +1,4 @@
+-- Each turn judges one row, by what stands before it.
 use Rattle.std.proofs.Common.{◌+◌, ◌-◌, length, is_some, Err, sym, ap, ◌∙◌, arith}
 use Rattle.refusal.specs.Firsts.{verdict_of}
 use Rattle.refusal.proofs.Firsts.{fault_next, fault_here, verdict_ok, verdict_err}

@@ -1,3 +1,4 @@
+-- What is written everywhere in the stack and in the list.
 use Rattle.std.proofs.Common.{◌≡◌, replicate, ap, ◌∙◌}
 use Rattle.owned_tables.specs.Contents.{no_step}
 use Rattle.owned_tables.proofs.walks.WalkTables.new.Goals as goal

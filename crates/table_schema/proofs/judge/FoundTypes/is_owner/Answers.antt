@@ -1,3 +1,4 @@
+-- The type that is found stands among the rows.
 use Rattle.std.proofs.Common.{◌<◌, length, sym, rules}
 use Rattle.table_schema.specs.Meaning.{named, no_type}
 use Rattle.table_schema.proofs.Founds.{first_at}

@@ -1,3 +1,4 @@
+-- Slots that are sound find each type.
 use Rattle.ordered_index.specs.Keys.{same_name, name_hash}
 use Rattle.ordered_index.specs.Laws.{name_lawful}
 use Rattle.table_schema.specs.Keys.{type_key}
