@@ -21,6 +21,19 @@ fn slots_of(owned: &mut OwnedTables, operations: bool) -> &mut Vec<u32> {
     }
 }
 
+// Writes a slot, and tells what it held.
+fn write_slot(
+    owned: &mut OwnedTables,
+    operations: bool,
+    place: usize,
+    value: u32,
+) -> Result<u32, Fail> {
+    let slot = slots_of(owned, operations)
+        .get_mut(place)
+        .ok_or("no such slot")?;
+    Ok(mem::replace(slot, value))
+}
+
 // What the builder says once one slot holds another number; then the slot is as it was.
 fn with_slot<S: Schema>(
     rt: &(impl Abort + AllocGlobal),
@@ -29,15 +42,15 @@ fn with_slot<S: Schema>(
     place: usize,
     value: u32,
 ) -> Result<Verdict, Fail> {
-    let slot = slots_of(&mut desk.owned, operations)
-        .get_mut(place)
-        .ok_or("no such slot")?;
-    let held = mem::replace(slot, value);
+    let held = write_slot(&mut desk.owned, operations, place, value)?;
     let verdict = desk.add(rt, &NOTHING, false)?;
-    if let Some(slot) = slots_of(&mut desk.owned, operations).get_mut(place) {
-        *slot = held;
-    }
+    write_slot(&mut desk.owned, operations, place, held)?;
     Ok(verdict)
+}
+
+// Exchanges the slots of two builders.
+fn exchange(one: &mut OwnedTables, other: &mut OwnedTables, operations: bool) {
+    mem::swap(slots_of(one, operations), slots_of(other, operations));
 }
 
 // A slot emptied, one that names another place or one past the names, and one more in use.
@@ -65,7 +78,7 @@ fn one_slot_damaged(rt: HostRuntime) -> Result<(), Fail> {
     Ok(())
 }
 
-// The indexes of a builder with other names, and as many; and each index in the place of the other.
+// The indexes of a builder with other names, and as many.
 #[test]
 fn other_indexes(rt: HostRuntime) -> Result<(), Fail> {
     let schema = closed_schema(rt.alloc())?;
@@ -82,25 +95,28 @@ fn other_indexes(rt: HostRuntime) -> Result<(), Fail> {
     assert_eq!(rt; other.add(&rt, &document, true)?, None);
     for operations in [true, false] {
         let mut desk = filled(&rt, &schema, NEEDED)?;
-        mem::swap(
-            slots_of(&mut desk.owned, operations),
-            slots_of(&mut other.owned, operations),
-        );
-        assert_eq!(rt; desk.add(&rt, &NOTHING, false)?, UNFIT, "{}", operations);
-        assert_eq!(rt; other.add(&rt, &NOTHING, false)?, UNFIT, "{}", operations);
-        mem::swap(
-            slots_of(&mut desk.owned, operations),
-            slots_of(&mut other.owned, operations),
-        );
-        assert_eq!(rt; desk.add(&rt, &NOTHING, false)?, None);
-        assert_eq!(rt; other.add(&rt, &NOTHING, false)?, None);
+        for verdict in [UNFIT, None] {
+            exchange(&mut desk.owned, &mut other.owned, operations);
+            assert_eq!(rt; desk.add(&rt, &NOTHING, false)?, verdict, "{}", operations);
+            assert_eq!(rt; other.add(&rt, &NOTHING, false)?, verdict, "{}", operations);
+        }
     }
+    Ok(())
+}
+
+// Each index of a builder in the place of the other.
+#[test]
+fn indexes_turned(rt: HostRuntime) -> Result<(), Fail> {
+    let schema = closed_schema(rt.alloc())?;
     let mut desk = filled(&rt, &schema, NEEDED)?;
-    let fragment_slots = desk.owned.fragment_slots.as_slice().to_vec(rt.alloc())?;
-    let operation_slots = mem::replace(slots_of(&mut desk.owned, true), fragment_slots);
-    *slots_of(&mut desk.owned, false) = operation_slots;
+    turn(&mut desk.owned);
     assert_eq!(rt; desk.add(&rt, &NOTHING, false)?, UNFIT);
     Ok(())
+}
+
+// Exchanges the two indexes of a builder.
+fn turn(owned: &mut OwnedTables) {
+    mem::swap(&mut owned.operation_slots, &mut owned.fragment_slots);
 }
 
 // An index that is handed back a slot short, or with none; and a longer one, whose further slots may hold anything.
