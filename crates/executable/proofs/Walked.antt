@@ -76,16 +76,18 @@ module _ (ks : List Kept) (x : IndexedDocument) (v : IsFinished ks x) where
 
     pub fields_reached : (n : ℕ) → FieldsOf x operation lent written n → ListsReached ks operation lent written (Ok n)
     fields_reached n of =
-        let at = found operation of.definition of.accepted.there in
-        (kept_short _ of.accepted.long, record {
-          number = at.number;
-          numbered = at.numbered;
-          places = of.places;
-          counted = of.counted;
-          listed = of.listed;
-          once = of.lists.once;
-          exactly = λ p. (λ among. (at.reaches p).0 (of.lists.sound p among), λ reached. of.lists.whole p ((at.reaches p).1 reached));
-        })
+        let at = found operation of.definition of.accepted.there in (
+          kept_short _ of.accepted.long,
+          record {
+            number = at.number;
+            numbered = at.numbered;
+            places = of.places;
+            counted = of.counted;
+            listed = of.listed;
+            once = of.lists.once;
+            exactly = λ p. (λ among. (at.reaches p).0 (of.lists.sound p among), λ reached. of.lists.whole p ((at.reaches p).1 reached));
+          },
+        )
 
     pub fields_refused : (f : WalkFault) → Refused x operation lent f → KeptRefused ks operation lent (walk_fault f)
     fields_refused _ (short is) = kept_short _ is

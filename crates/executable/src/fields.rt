@@ -2,7 +2,7 @@
 ghost use Rattle.std.specs.Prelude.{◌≡◌, ◌+◌, List, ◌++◌, length, drop, replicate, OnErr, OnOk};
 ghost use Rattle.schema.specs.Meaning.{Meaning};
 ghost use Rattle.building_rules.specs.Calls.{Call, kept};
-ghost use Rattle.walking.specs.Lent.{Lent, lent_long};
+ghost use Rattle.walking.specs.Lent.{WorkedWithin, Lent, lent_long};
 ghost use Rattle.walking.specs.Answers.{lengths};
 ghost use Rattle.builder.specs.Finished.{Finished};
 ghost use Rattle.executable.specs.Walking.{FieldsAnswer, ListsReached};
@@ -43,7 +43,7 @@ pub fn all_fields<S: Schema>(
     ensures answer { FieldsAnswer document.now tables.now operation (lengths (length stack.old) (length marks.old) (lent_long list.entry)) (λ places. Lent list.entry list.exit (λ old new. new ≡ places ++ drop (length places) old)) result }
     ensures refused { OnErr result ((stack.new ≡ stack.old) × (marks.new ≡ marks.old) × Lent list.entry list.exit (λ old new. new ≡ old)) }
     ensures marks { OnOk result (marks.new ≡ replicate document.now.fragments 0 ++ drop document.now.fragments marks.old) }
-    ensures further { drop (document.now.fragments + 1) stack.new ≡ drop (document.now.fragments + 1) stack.old }
+    ensures further { WorkedWithin (document.now.fragments + 1) stack.old stack.new }
     ensures kept { (m : Meaning) (calls : List Call) → Finished S.Schema.meaning m calls document.now tables.now → ListsReached (kept m calls) operation (lengths (length stack.old) (length marks.old) (lent_long list.entry)) (λ places. Lent list.entry list.exit (λ old new. new ≡ places ++ drop (length places) old)) result }
 {
     let Some(stored) = document.stored(tables) else {

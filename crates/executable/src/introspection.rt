@@ -1,5 +1,6 @@
 // Whether an operation of a finished document asks for nothing but introspection.
 ghost use Rattle.std.specs.Prelude.{◌≡◌, ◌+◌, ◌++◌, length, drop, replicate, None, OnErr, OnOk};
+ghost use Rattle.walking.specs.Lent.{WorkedWithin};
 ghost use Rattle.walking.specs.Answers.{lengths};
 ghost use Rattle.executable.specs.Walking.{IntrospectionAnswer};
 
@@ -22,7 +23,7 @@ pub fn is_introspection<S: Schema>(
     ensures answer { IntrospectionAnswer document.now tables.now operation (lengths (length stack.old) (length marks.old) None) result }
     ensures refused { OnErr result ((stack.new ≡ stack.old) × (marks.new ≡ marks.old)) }
     ensures marks { OnOk result (marks.new ≡ replicate document.now.fragments 0 ++ drop document.now.fragments marks.old) }
-    ensures further { drop (document.now.fragments + 1) stack.new ≡ drop (document.now.fragments + 1) stack.old }
+    ensures further { WorkedWithin (document.now.fragments + 1) stack.old stack.new }
 {
     let Some(stored) = document.stored(tables) else {
         return Err(ExecutableFault::TableTooShort);

@@ -110,7 +110,7 @@ module _ {S : Type 0} (meaning : S → Meaning) (m : Meaning) (before : Tables) 
         let places = w.places in
         let behind : drop (i + 1) now ≡ rest = sym (drop-drop 1 i now) ∙ ap (drop 1) w.further ∙ drop-drop 1 i old in
         let more : drop i old ≡ a ∷ rest =
-            sym w.further ∙ drop_more now i d (omega arith) ∙ ap (λ (e : Adding). e ∷ drop (i + 1) now) (sym there) ∙ ap (λ (xs : List Adding). a ∷ xs) behind in
+        sym w.further ∙ drop_more now i d (omega arith) ∙ ap (λ (e : Adding). e ∷ drop (i + 1) now) (sym there) ∙ ap (λ (xs : List Adding). a ∷ xs) behind in
         record {
           calls = w.calls ++ call_of a x ∷ [];
           inside = omega arith;

@@ -8,6 +8,7 @@ use Rattle.stored_tables.specs.declared.tables.Tables.{Tables}
 use Rattle.stored_tables.specs.Layout.{fragments_of}
 use Rattle.finished_rules.specs.Same.{EachIsSame}
 use Rattle.walking.specs.declared.turn.WalkStep.{WalkStep}
+use Rattle.walking.specs.Lent.{WorkedWithin}
 use Rattle.walking.specs.Refusals.{short_for}
 use Rattle.walking.specs.Answers.{lengths}
 use Rattle.builder.specs.declared.progress.Progress.{Progress}
@@ -82,7 +83,7 @@ pub record Walked (m : Meaning) (t t' : Tables) (s s' : List Adding) (operation 
   pub run : WasRun m t t' s s'
   pub fields : Reached (kept m (calls_of m t s)) operation (λ places. r'.list ≡ places ++ drop (length places) r.list) n
   pub clear : r'.marks ≡ replicate (fragments_kept m t s) 0 ++ drop (fragments_kept m t s) r.marks
-  pub further : drop (fragments_kept m t s + 1) r'.stack ≡ drop (fragments_kept m t s + 1) r.stack
+  pub further : WorkedWithin (fragments_kept m t s + 1) r.stack r'.stack
 
 -- a walk; or that no such operation is kept; or why the script is not run: first that too little is lent to the walk
 abbrev pub TellsFields : Meaning → Tables → Tables → List Adding → List Adding → ℕ → Room → Room → Result (Option ℕ) ScriptFault → Type 0

@@ -1,6 +1,6 @@
--- A list that may be lent to a call.
+-- What is lent to a walk: a list, or none, and a stack to work on.
 use Rattle.std.proofs.Common.{inl, inr}
-use Rattle.std.specs.Prelude.{◌⊎◌, ℕ, List, ◌++◌, length, take, drop, Some, None, Option, option_map}
+use Rattle.std.specs.Prelude.{◌≡◌, ◌⊎◌, ℕ, List, ◌++◌, length, take, drop, Some, None, Option, option_map}
 use Rattle.std.specs.Borrow.{MutBor}
 
 -- how long the list is, if one is lent
@@ -17,3 +17,7 @@ Lent (Some x) (inr (inr y)) P = ⊥
 -- a list over whose front places are written, as far as they fit
 abbrev pub written_over : List ℕ → List ℕ → List ℕ
 written_over list places = take (length list) places ++ drop (length places) list
+
+-- The working contents: what the first n places hold afterwards is left open, the others hold what they held.
+abbrev pub WorkedWithin : {A : Type 0} → ℕ → List A → List A → Type 0
+WorkedWithin n old new = drop n new ≡ drop n old

@@ -6,7 +6,7 @@ ghost use Rattle.stored_tables.specs.Layout.{name_of};
 ghost use Rattle.walking.specs.declared.turn.Scope.TheVariants.{Deep};
 ghost use Rattle.walking.specs.Tables.{Walkable};
 ghost use Rattle.walking.specs.Walk.{Listing};
-ghost use Rattle.walking.specs.Lent.{Lent, lent_long, written_over};
+ghost use Rattle.walking.specs.Lent.{WorkedWithin, Lent, lent_long, written_over};
 ghost use Rattle.walking.specs.Refusals.{Refused};
 ghost use Rattle.walking.specs.Answers.{lengths, FieldsOf};
 
@@ -66,7 +66,7 @@ fn walk_fields(
     ensures answer { MatchResult result (FieldsOf document.now operation lent (λ places. list.new ≡ written_over list.old places)) (Refused document.now operation lent) }
     ensures refused { OnErr result ((stack.new ≡ stack.old) × (marks.new ≡ marks.old) × (list.new ≡ list.old)) }
     ensures marks { OnOk result (marks.new ≡ replicate (length document.now.stored.fragments.now) 0 ++ drop (length document.now.stored.fragments.now) marks.old) }
-    ensures further { drop (length document.now.stored.fragments.now + 1) stack.new ≡ drop (length document.now.stored.fragments.now + 1) stack.old }
+    ensures further { WorkedWithin (length document.now.stored.fragments.now + 1) stack.old stack.new }
 {
     let definition = judge(document, operation, lent)?;
     let fragments = document.stored.fragments.len();
@@ -90,7 +90,7 @@ pub fn all_fields(
     ensures answer { MatchResult result (FieldsOf document.now operation (lengths (length stack.old) (length marks.old) (lent_long list.entry)) (λ places. Lent list.entry list.exit (λ old new. new ≡ places ++ drop (length places) old))) (Refused document.now operation (lengths (length stack.old) (length marks.old) (lent_long list.entry))) }
     ensures refused { OnErr result ((stack.new ≡ stack.old) × (marks.new ≡ marks.old) × Lent list.entry list.exit (λ old new. new ≡ old)) }
     ensures marks { OnOk result (marks.new ≡ replicate (length document.now.stored.fragments.now) 0 ++ drop (length document.now.stored.fragments.now) marks.old) }
-    ensures further { drop (length document.now.stored.fragments.now + 1) stack.new ≡ drop (length document.now.stored.fragments.now + 1) stack.old }
+    ensures further { WorkedWithin (length document.now.stored.fragments.now + 1) stack.old stack.new }
 {
     let lent = Lengths {
         stack: stack.len(),

@@ -8,6 +8,7 @@ ghost use Rattle.walking.specs.Tables.{Walkable};
 ghost use Rattle.walking.specs.Walk.{Listing};
 ghost use Rattle.walking.specs.Introspection.{Introspection};
 ghost use Rattle.walking.specs.Refusals.{Refused};
+ghost use Rattle.walking.specs.Lent.{WorkedWithin};
 ghost use Rattle.walking.specs.Answers.{lengths, IntrospectionOf};
 
 use crate::fault::WalkFault;
@@ -67,7 +68,7 @@ pub fn is_introspection(
     ensures answer { MatchResult result (IntrospectionOf document.now operation (lengths (length stack.old) (length marks.old) None)) (Refused document.now operation (lengths (length stack.old) (length marks.old) None)) }
     ensures refused { OnErr result ((stack.new ≡ stack.old) × (marks.new ≡ marks.old)) }
     ensures marks { OnOk result (marks.new ≡ replicate (length document.now.stored.fragments.now) 0 ++ drop (length document.now.stored.fragments.now) marks.old) }
-    ensures further { drop (length document.now.stored.fragments.now + 1) stack.new ≡ drop (length document.now.stored.fragments.now + 1) stack.old }
+    ensures further { WorkedWithin (length document.now.stored.fragments.now + 1) stack.old stack.new }
 {
     let lent = Lengths {
         stack: stack.len(),

@@ -25,9 +25,10 @@ refused_so (Err f) = refl
 
 -- of an emptied index the first 512 slots are empty, and the others as they were
 emptied_front : (slots after : List ℕ) → after ≡ replicate 512 0 ++ drop 512 slots → (take 512 after ≡ replicate 512 0) × (drop 512 after ≡ drop 512 slots)
-emptied_front slots after is =
-    (ap (take 512) is ∙ take_at (replicate 512 0) (drop 512 slots) 512 (length-replicate {A = ℕ} 512 0),
-     ap (drop 512) is ∙ drop_at (replicate 512 0) (drop 512 slots) 512 (length-replicate {A = ℕ} 512 0))
+emptied_front slots after is = (
+  ap (take 512) is ∙ take_at (replicate 512 0) (drop 512 slots) 512 (length-replicate {A = ℕ} 512 0),
+  ap (drop 512) is ∙ drop_at (replicate 512 0) (drop 512 slots) 512 (length-replicate {A = ℕ} 512 0),
+)
 
 -- a fresh builder on emptied indexes
 begins : (before after : Tables) (p : Progress) → p ≡ no_progress → Emptied before after
@@ -40,12 +41,14 @@ begins before after p is e =
 pub loop-i-init : goal.loop-i-init
 loop-i-init g c =
     let made = c.in_ok-builder.ensures in
-    let empty = begins c.args.tables.now c.new.new.tables c.in_ok-builder.builder.progress made.begins.1 made.begins.2 in
-    (begin g.S.Schema.meaning (g.S.Schema.meaning c.args.schema.now) c.new.new.tables (begun c.new.new.tables) c.args.script.now c.in_ok-builder.builder c.new.new.tables made.calls
-    empty.0
-    (record { operations = refl; fragments = refl })
-    (record { operations = refl; operation_slots = refl; fragments = refl; fragment_slots = refl; rows = refl; errors = refl; path_keys = refl })
-    (record { operations = refl; operation_slots = refl; fragments = refl; fragment_slots = refl; rows = refl; errors = refl; path_keys = refl }), refl)
+    let empty = begins c.args.tables.now c.new.new.tables c.in_ok-builder.builder.progress made.begins.1 made.begins.2 in (
+      begin g.S.Schema.meaning (g.S.Schema.meaning c.args.schema.now) c.new.new.tables (begun c.new.new.tables) c.args.script.now c.in_ok-builder.builder c.new.new.tables made.calls
+          empty.0
+          (record { operations = refl; fragments = refl })
+          (record { operations = refl; operation_slots = refl; fragments = refl; fragment_slots = refl; rows = refl; errors = refl; path_keys = refl })
+          (record { operations = refl; operation_slots = refl; fragments = refl; fragment_slots = refl; rows = refl; errors = refl; path_keys = refl }),
+      refl,
+    )
 
 pub loop-i-preserved : goal.loop-i-preserved
 loop-i-preserved g c =
@@ -57,17 +60,19 @@ loop-i-preserved g c =
     let rows = call.document.rows.now in
     let b = c.loop-i.builder in
     let t = c.loop-i.tables in
-    let told = c.err.ensures.value in
-    (go_on g.S.Schema.meaning m _ _ _ c.loop-i.i b t c.loop-i.script w no_adding call c.err.result _ _ c.loop-i-test.true refl
-    (told ∙ answered g.S.Schema.meaning m w.calls b t w.stands call _ added.answer)
-    (subst (λ (refused : Bool). Stands g.S.Schema.meaning m (w.calls ++ called ds rows call.strict refused ∷ []) c.add_ast_document.new.self c.add_ast_document.new.tables)
-    (refused_so c.add_ast_document.result ∙ ap (λ (x : Option BuilderFault). is_some x) (sym told)) (added.calls m w.calls w.stands))
-    (added.held
-    ∙ ap (λ (x : Meaning). after_adding x (held_in b.progress t) ds rows call.strict c.add_ast_document.result) w.stands.schema
-    ∙ ap (λ (h : Held). after_adding m h ds rows call.strict c.add_ast_document.result) w.holds
-    ∙ sym (one_call_more m w.calls (begun c.new.new.tables) call c.add_ast_document.result)
-    ∙ ap (λ (x : Option BuilderFault). held_after m (begun c.new.new.tables) (w.calls ++ call_of call x ∷ [])) (sym told))
-    added.further added.same added.lengths, added.schema ∙ c.loop-i.invariant.1)
+    let told = c.err.ensures.value in (
+      go_on g.S.Schema.meaning m _ _ _ c.loop-i.i b t c.loop-i.script w no_adding call c.err.result _ _ c.loop-i-test.true refl
+          (told ∙ answered g.S.Schema.meaning m w.calls b t w.stands call _ added.answer)
+          (subst (λ (refused : Bool). Stands g.S.Schema.meaning m (w.calls ++ called ds rows call.strict refused ∷ []) c.add_ast_document.new.self c.add_ast_document.new.tables)
+          (refused_so c.add_ast_document.result ∙ ap (λ (x : Option BuilderFault). is_some x) (sym told)) (added.calls m w.calls w.stands))
+          (added.held
+          ∙ ap (λ (x : Meaning). after_adding x (held_in b.progress t) ds rows call.strict c.add_ast_document.result) w.stands.schema
+          ∙ ap (λ (h : Held). after_adding m h ds rows call.strict c.add_ast_document.result) w.holds
+          ∙ sym (one_call_more m w.calls (begun c.new.new.tables) call c.add_ast_document.result)
+          ∙ ap (λ (x : Option BuilderFault). held_after m (begun c.new.new.tables) (w.calls ++ call_of call x ∷ [])) (sym told))
+          added.further added.same added.lengths,
+      added.schema ∙ c.loop-i.invariant.1,
+    )
 
 pub returns-clause-runs : goal.returns-clause-runs
 returns-clause-runs g c =
@@ -77,18 +82,19 @@ returns-clause-runs g c =
     let old = c.args.script.now in
     let long = same_lengths c.args.tables.now c.new.new.tables made.lengths in
     let empty = begins c.args.tables.now c.new.new.tables c.in_ok-builder.builder.progress made.begins.1 made.begins.2 in
-    let over = c.loop-i-test.false in
-    (record {
-       long = made.begins.0;
-       answers = all_answered g.S.Schema.meaning m _ _ _ c.loop-i.i c.loop-i.builder c.loop-i.tables c.loop-i.script w over ∙ ap (λ (l : Lengths). answered_from l m [] old) long;
-       holds =
-           all_held g.S.Schema.meaning m _ _ _ c.loop-i.i c.loop-i.builder c.loop-i.tables c.loop-i.script w over
-           ∙ ap (λ (h : Held). held_after m h (calls_from (lengths_of c.new.new.tables) m [] old)) empty.1
-           ∙ ap (λ (l : Lengths). held_after m (begun c.args.tables.now) (calls_from l m [] old)) long;
-       further = both_further c.args.tables.now c.new.new.tables c.loop-i.tables empty.2 w.further_slots;
-     },
-     subst (λ (l : Lengths). Stands g.S.Schema.meaning m (calls_from l m [] old) c.loop-i.builder c.loop-i.tables) long
-     (all_called g.S.Schema.meaning m _ _ _ c.loop-i.i c.loop-i.builder c.loop-i.tables c.loop-i.script w over))
+    let over = c.loop-i-test.false in (
+      record {
+        long = made.begins.0;
+        answers = all_answered g.S.Schema.meaning m _ _ _ c.loop-i.i c.loop-i.builder c.loop-i.tables c.loop-i.script w over ∙ ap (λ (l : Lengths). answered_from l m [] old) long;
+        holds =
+            all_held g.S.Schema.meaning m _ _ _ c.loop-i.i c.loop-i.builder c.loop-i.tables c.loop-i.script w over
+            ∙ ap (λ (h : Held). held_after m h (calls_from (lengths_of c.new.new.tables) m [] old)) empty.1
+            ∙ ap (λ (l : Lengths). held_after m (begun c.args.tables.now) (calls_from l m [] old)) long;
+        further = both_further c.args.tables.now c.new.new.tables c.loop-i.tables empty.2 w.further_slots;
+      },
+      subst (λ (l : Lengths). Stands g.S.Schema.meaning m (calls_from l m [] old) c.loop-i.builder c.loop-i.tables) long
+          (all_called g.S.Schema.meaning m _ _ _ c.loop-i.i c.loop-i.builder c.loop-i.tables c.loop-i.script w over),
+    )
 
 pub returns-clause-schema : goal.returns-clause-schema
 returns-clause-schema g c = c.loop-i.invariant.1 ∙ c.in_ok-builder.ensures.schema
