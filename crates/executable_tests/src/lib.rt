@@ -10,3 +10,5 @@ mod handed_back;
 mod lent;
 #[cfg(test)]
 mod side;
+#[cfg(test)]
+mod whole_runs;
