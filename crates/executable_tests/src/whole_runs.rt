@@ -58,6 +58,7 @@ fn scripts_that_build_the_same(rt: HostRuntime) -> Result<(), Fail> {
         adding(&operation, &operation_rows),
         adding(&fragment, &fragment_rows),
     ];
+    let mut first = [adding(&operation, &operation_rows)];
     let mut other_script = [adding(&both, &both_rows)];
     let mut owned = OwnedTables::new(rt.alloc(), TableLengths::FULL)?;
     let mut other = OwnedTables::new(rt.alloc(), TableLengths::FULL)?;
@@ -73,7 +74,7 @@ fn scripts_that_build_the_same(rt: HostRuntime) -> Result<(), Fail> {
     let differ = build_the_same(
         &OpenSchema,
         one,
-        &mut script[..1],
+        &mut first,
         &mut other.lend(),
         &mut other_script,
     );
