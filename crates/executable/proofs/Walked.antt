@@ -86,6 +86,7 @@ module _ (ks : List Kept) (x : IndexedDocument) (v : IsFinished ks x) where
             listed = of.listed;
             once = of.lists.once;
             exactly = λ p. (λ among. (at.reaches p).0 (of.lists.sound p among), λ reached. of.lists.whole p ((at.reaches p).1 reached));
+            ordered = record { tables = x.stored; holds = v.holds; definition = of.definition; there = of.accepted.there; lists = of.lists };
           },
         )
 

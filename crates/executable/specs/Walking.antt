@@ -1,18 +1,21 @@
 -- Walking over the fields of an operation: which refusal comes, and what is counted and listed.
-use Rattle.std.specs.Prelude.{Bool, ◌≡◌, ℕ, suc, ◌<◌, true, false, ◌↔◌, List, length, Ok, Err, Result, slice_index}
+use Rattle.std.specs.Prelude.{Bool, ◌≡◌, ℕ, suc, ◌<◌, true, false, ◌↔◌, List, length, Some, Ok, Err, Result, slice_index}
 use Rattle.building_rules.specs.Definitions.{Kept}
 use Rattle.building_rules.specs.Rules.{anonymous_role, named_role}
 use Rattle.building_rules.specs.Bounds.{rows_kept}
+use Rattle.stored_tables.specs.declared.definition.StoredDefinition.{StoredDefinition}
+use Rattle.stored_tables.specs.declared.stored.StoredDocument.{StoredDocument}
 use Rattle.stored_tables.specs.declared.tables.Tables.{Tables}
 use Rattle.stored_tables.specs.Layout.{fragments_of}
 use Rattle.finished_rules.specs.Numbers.{has_role, numbers}
 use Rattle.finished_rules.specs.Reaches.{Reaches}
+use Rattle.finished_rules.specs.Tables.{HoldsKept}
 use Rattle.finished_tables.specs.declared.indexed.IndexedDocument.{IndexedDocument}
 use Rattle.walking.specs.declared.fault.WalkFault.{WalkFault}
 use Rattle.walking.specs.declared.fault.WalkFault.TheVariants as walk
 use Rattle.walking.specs.declared.judge.Lengths.{Lengths}
-use Rattle.walking.specs.Refusals.{short_for, Refused}
-use Rattle.walking.specs.Listed.{Among, Distinct}
+use Rattle.walking.specs.Refusals.{short_for, operation_at, Refused}
+use Rattle.walking.specs.Listed.{Among, Distinct, Lists}
 use Rattle.walking.specs.Answers.{FieldsOf, IntrospectionOf}
 use Rattle.builder.specs.declared.executable.ExecutableDocument.{ExecutableDocument}
 use Rattle.builder.specs.Finished.{finished_short, ReadFrom}
@@ -37,6 +40,15 @@ pub data IsNumbered (ks : List Kept) : ℕ → ℕ → Type 0 where
   anonymous : (n : ℕ) → n < length ks → has_role anonymous_role ks n ≡ true → IsNumbered ks 0 n
   named : (i : ℕ) → i < length (numbers named_role ks) → IsNumbered ks (suc i) (slice_index (numbers named_role ks) i)
 
+-- the places in the order of the walk: as it lists them in tables that hold what is kept, whatever else these are; there is one
+-- such list
+pub record InOrder (ks : List Kept) (operation : ℕ) (places : List ℕ) : Type 0 where
+  pub tables : StoredDocument
+  pub holds : HoldsKept ks tables
+  pub definition : StoredDefinition
+  pub there : operation_at tables operation ≡ Some definition
+  pub lists : Lists tables definition places
+
 -- the places that are listed are those of exactly the kept fields that the operation reaches, each once, and they are counted
 pub record Reached (ks : List Kept) (operation : ℕ) (written : List ℕ → Type 0) (n : ℕ) : Type 0 where
   pub number : ℕ
@@ -46,6 +58,7 @@ pub record Reached (ks : List Kept) (operation : ℕ) (written : List ℕ → Ty
   pub listed : written places
   pub once : Distinct places
   pub exactly : (p : ℕ) → Among p places ↔ Reaches ks number p
+  pub ordered : InOrder ks operation places
 
 -- whether what is lent is too short for a walk over what is kept
 abbrev pub short_for_kept : List Kept → Lengths → Bool
