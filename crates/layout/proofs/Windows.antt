@@ -189,6 +189,13 @@ module _ (views : List RowView) where
         let all = turn fitting None (sym (verdict_ok _ (sym good))) in
         record { from = omega (arith, at.from, all.0); inside = all.1; closed = all.3 refl; whole = all.2 }
 
+    -- nothing stands beneath it
+    pub turn_alone : Ok tt ≡ verdict_of (own_fault v i end (eqb room 0)) → v.end ≤ i + 1 → Searched start end room v.end
+    turn_alone fitting alone =
+        let beneath = fault_in views (i + 1) v.end (room - 1) in
+        let none : 0 ≡ v.end - (i + 1) = omega arith in
+        turn_on fitting (ap (λ (n : ℕ). verdict_of (first_fault misfit beneath (i + 1) n)) none)
+
 -- the row that is told is one of those searched
 row_by : (i left : ℕ) (m : Misfit) (f : Option RowFault) (rest : Option Misfit) → at_row misfit i f rest ≡ Some m → (rest ≡ Some m → m.row ≤ i + 1 + left) → m.row ≤ i + suc left
 row_by i left m None rest is later = let low = later is in omega arith

@@ -5,7 +5,7 @@ use Rattle.std.proofs.lemmas.Result.{err_from_is_err_and}
 use Rattle.refusal.proofs.Firsts.{is_fine, is_fault}
 use Rattle.layout.specs.declared.row.RowView.{RowView}
 use Rattle.layout.specs.Places.{no_view, misfit}
-use Rattle.layout.proofs.Windows.{turn_here, turn_beneath, turn_on}
+use Rattle.layout.proofs.Windows.{turn_here, turn_beneath, turn_on, turn_alone}
 use Rattle.layout.proofs.check.+check_set.Goals as goal
 
 -- what is seen of the row that is read
@@ -30,9 +30,16 @@ returns-in_err-check_set g t c =
     let fits = sym (is_fine c.check_row.result c.in_ok-map_err.ensures.variant) ∙ c.check_row.ensures in
     rw (p.1, p.2) (turn_beneath (map g.R.Row.seen rows) _ _ _ _ c.view-view.result here c.loop-i-test.true c.loop-i.invariant _ fits c.in_err-check_set.ensures)
 
+pub loop-i-preserved-in_ok-check_set : goal.loop-i-preserved-in_ok-check_set
+loop-i-preserved-in_ok-check_set g t c =
+    let rows = c.args.rows.now in
+    let here = seen_at g.R.Row.seen rows c.loop-i.i _ c.view-view.result (omega (arith, c.requires.within)) c.index-rows-i.is c.view-view.ensures in
+    let fits = sym (is_fine c.check_row.result c.in_ok-map_err.ensures.variant) ∙ c.check_row.ensures in
+    turn_on (map g.R.Row.seen rows) _ _ _ _ c.view-view.result here c.loop-i-test.true c.loop-i.invariant fits c.in_ok-check_set.ensures
+
 pub loop-i-preserved : goal.loop-i-preserved
 loop-i-preserved g t c =
     let rows = c.args.rows.now in
     let here = seen_at g.R.Row.seen rows c.loop-i.i _ c.view-view.result (omega (arith, c.requires.within)) c.index-rows-i.is c.view-view.ensures in
     let fits = sym (is_fine c.check_row.result c.in_ok-map_err.ensures.variant) ∙ c.check_row.ensures in
-    turn_on (map g.R.Row.seen rows) _ _ _ _ c.view-view.result here c.loop-i-test.true c.loop-i.invariant fits c.in_ok-check_set.ensures
+    turn_alone (map g.R.Row.seen rows) _ _ _ _ c.view-view.result here c.loop-i-test.true c.loop-i.invariant fits (omega (arith, c.if-next-i.false))
