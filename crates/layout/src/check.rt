@@ -37,7 +37,7 @@ fn check_set<R: Row>(rows: &[R], start: usize, end: usize, room: u32) -> Result<
         let view = rows[i].view();
         check_row(view, i, end, room).map_err(|fault| Misfit { fault, row: i + 1 })?;
         let next = view.end as usize;
-        // A leaf costs no call.
+        // A row with none beneath it costs no call.
         if next > i + 1 {
             check_set(rows, i + 1, next, room - 1)?;
         }

@@ -47,7 +47,7 @@ impl Document<'_> {
         while let Some(step) = self.next_selection(rest) {
             let beneath = fields_beneath(above, &step.row);
             total += beneath;
-            // A leaf costs no call.
+            // A row with none beneath it costs no call.
             if !step.beneath.is_empty() {
                 total += self.path_keys_in_set(step.beneath, beneath);
             }
