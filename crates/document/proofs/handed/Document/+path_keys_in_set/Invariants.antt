@@ -12,9 +12,9 @@ decreases-path_keys_in_set l = l.set.end - l.set.next
 -- what is left adds up with what was counted
 abbrev pub invariant-loop-step : goal.invariant-loop-step
 invariant-loop-step l =
-    (g : Forest Selection) × Holds l.self.rows.now l.rest g × (l.above + depth g ≤ 32)
-    × ((f : Forest Selection) → Holds l.self.rows.now l.fn.set f → l.total + forest_keys l.above g ≡ forest_keys l.above f)
-    × (l.rest.end ≡ l.fn.set.end) × (l.fn.set.next ≤ l.rest.next)
+    (g : Forest Selection) × Holds l.self.rows.now l.rest g × (l.around + depth g ≤ 32)
+    × ((f : Forest Selection) → Holds l.self.rows.now l.fn.set f → l.total + forest_keys l.around g ≡ forest_keys l.above f)
+    × (l.rest.end ≤ l.fn.set.end) × (l.fn.set.next ≤ l.rest.next)
 
 abbrev pub decreases-loop-step : goal.decreases-loop-step
 decreases-loop-step l = l.rest.end - l.rest.next
