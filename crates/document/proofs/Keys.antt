@@ -1,5 +1,5 @@
 -- Path keys: what one selection more adds, and that they stay few.
-use Rattle.std.proofs.Common.{◌≡◌, ℕ, zero, suc, ◌+◌, ◌-◌, ◌*◌, ◌<◌, ◌≤◌, max, Bool, true, false, cond, List, [], ◌∷◌, length, get_or, drop, Some, None, count_by, sym, refl, ap, ◌∙◌, subst, arith}
+use Rattle.std.proofs.Common.{◌≡◌, ℕ, suc, ◌+◌, ◌*◌, ◌<◌, ◌≤◌, max, Bool, true, false, leb, cond, List, [], ◌∷◌, length, get_or, drop, Some, None, count_by, sym, refl, ap, ◌∙◌, subst, arith}
 use Rattle.layout.specs.Forest.{Forest, none, row, size, depth, flatten}
 use Rattle.layout.proofs.Tables.{forest_read, length-flatten}
 use Rattle.document.specs.declared.rows.SelectionRow.{SelectionRow}
@@ -10,6 +10,7 @@ use Rattle.document.specs.Sets.{no_row, no_definition_row, set_of, next_of, step
 use Rattle.document.specs.declared.rows.DefinitionRow.{DefinitionRow}
 use Rattle.document.specs.Document.{Definition, no_definition, definition_rows, selection_rows, KeepsRules, IsDocument}
 use Rattle.document.specs.Needs.{way, forest_keys, rows_in, keys_in}
+use Rattle.std.proofs.lemmas.Bool.{leb-true}
 use Rattle.std.specs.List.{AllByRecursion}
 use Rattle.std.proofs.ByRecursion.{All-get_or}
 use Rattle.std.proofs.lemmas.List.{at_drop_more, at_drop_all, length-append}
@@ -65,11 +66,10 @@ pub ended : (rows : List SelectionRow) (set : SelectionSet) (g : Forest Selectio
 ended rows set none holds is = refl
 ended rows set (row s below after) holds is = absurd (subst (Follows rows set (row s below after)) (sym is) (next_follows rows set (row s below after) holds))
 
--- where the steps of a set end, by their number or by the set, no keys are left
-pub no_more : (rows : List SelectionRow) (set : SelectionSet) (above : ℕ) (g : Forest Selection) (n : ℕ) → Holds rows set g → above + depth g ≤ 32 → set.end - set.next ≤ n
-    → (0 < n → None ≡ next_of rows set) → forest_keys above g ≡ 0
-no_more rows set above g zero holds shallow many is = omega (arith, few_keys g above shallow, holds.stand.ends)
-no_more rows set above g (suc n) holds shallow many is = ap (forest_keys above) (ended rows set g holds (is (omega arith)))
+-- a set with no selection left has no keys
+pub no_keys : (rows : List SelectionRow) (set : SelectionSet) (above : ℕ) (f : Forest Selection) → Holds rows set f → leb set.end set.next ≡ true → forest_keys above f ≡ 0
+no_keys rows set above none holds low = refl
+no_keys rows set above (row s below after) holds low = absurd (omega (arith, leb-true set.end set.next low, holds.stand.ends))
 
 -- a set stands for one forest only
 pub same_set : (rows : List SelectionRow) (set : SelectionSet) (f g : Forest Selection) → Holds rows set f → Holds rows set g → f ≡ g

@@ -143,6 +143,10 @@ module _ (views : List RowView) where
       (cases_eq j i))
       (cases_lt j i)
 
+  or_else_last : (f : Option Misfit) → or_else f None ≡ f
+  or_else_last None = refl
+  or_else_last (Some m) = refl
+
   -- a search that has come to i: the rows so far fit, and the rows to come have the first that does not
   pub record Searched (start end room i : ℕ) : Type 0 where
     pub from : start ≤ i
@@ -188,6 +192,27 @@ module _ (views : List RowView) where
     turn_on fitting good =
         let all = turn fitting None (sym (verdict_ok _ (sym good))) in
         record { from = omega (arith, at.from, all.0); inside = all.1; closed = all.3 refl; whole = all.2 }
+
+    -- nothing stands beneath it
+    pub turn_alone : Ok tt ≡ verdict_of (own_fault v i end (eqb room 0)) → v.end ≤ i + 1 → Searched start end room v.end
+    turn_alone fitting alone =
+        let beneath = fault_in views (i + 1) v.end (room - 1) in
+        let none : 0 ≡ v.end - (i + 1) = omega arith in
+        turn_on fitting (ap (λ (n : ℕ). verdict_of (first_fault misfit beneath (i + 1) n)) none)
+
+    -- nothing stands behind it: what is beneath it is all that is left
+    pub turn_down : Ok tt ≡ verdict_of (own_fault v i end (eqb room 0)) → v.end ≡ end
+        → Searched (i + 1) end (room - 1) (i + 1) × (first_misfit views (i + 1) end (room - 1) ≡ first_misfit views start end room)
+    turn_down fitting last =
+        let beneath = first_misfit views (i + 1) v.end (room - 1) in
+        let all = turn fitting beneath refl in
+        let fault = fault_in views start end room in
+        let none : end - v.end ≡ 0 = omega arith in
+        let rest : first_fault misfit fault v.end (end - v.end) ≡ None = ap (first_fault misfit fault v.end) none in
+        let whole : or_else beneath None ≡ first_misfit views start end room = ap (or_else beneath) (sym rest) ∙ all.2 in (
+          record { from = omega arith; inside = omega arith; closed = λ j low high. absurd (omega arith); whole = refl },
+          ap (λ e. first_misfit views (i + 1) e (room - 1)) (sym last) ∙ sym (or_else_last beneath) ∙ whole,
+        )
 
 -- the row that is told is one of those searched
 row_by : (i left : ℕ) (m : Misfit) (f : Option RowFault) (rest : Option Misfit) → at_row misfit i f rest ≡ Some m → (rest ≡ Some m → m.row ≤ i + 1 + left) → m.row ≤ i + suc left

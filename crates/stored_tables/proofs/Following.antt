@@ -126,8 +126,8 @@ pub record Left (rows row : ℕ) (all left : List StoredDefinition) : Type 0 whe
   pub order : InOrder rows 0 left
   pub counts : (k : ℕ) → row ≤ k → count_by (holds k) left ≡ count_by (holds k) all
 
--- a row more is looked up: in so many of all definitions it is
-pub left_on : (rows row next : ℕ) (all left rest : List StoredDefinition) → next ≡ row + 1 → rest ≡ from_row row left → Left rows row all left → Left rows next all rest
+-- the rows up to a later one are looked up: in so many of all definitions it is
+pub left_on : (rows row next : ℕ) (all left rest : List StoredDefinition) → row ≤ next → rest ≡ from_row row left → Left rows row all left → Left rows next all rest
 left_on rows row next all left rest more is at =
     record {
       order = rw is (left_in_order rows row 0 left at.order);

@@ -54,6 +54,15 @@ module _ (test : ℕ → Bool) where
       let here : test i ≡ false = ap test (omega arith) ∙ none 0 (omega arith) in
       place_on i (suc left) left refl here ∙ place_none (i + 1) left (λ m low. ap test (omega arith) ∙ none (suc m) (omega arith))
 
+  -- places that do not pass are passed over
+  pub place_past : (i next end : ℕ) → i ≤ next → next ≤ end → ((k : ℕ) → i ≤ k → k < next → test k ≡ false) → first_place test i (end - i) ≡ first_place test next (end - next)
+  place_past i next end low high none =
+      let parts : end - i ≡ (next - i) + (end - next) = omega arith in
+      let at : i + (next - i) ≡ next = omega arith in
+      let passed = place_none i (next - i) (λ m less. none (i + m) (omega arith) (omega arith)) in
+      ap (first_place test i) parts ∙ place_parts i (next - i) (end - next)
+      ∙ ap (λ f. or_else f (first_place test (i + (next - i)) (end - next))) passed ∙ ap (λ j. first_place test j (end - next)) at
+
   none_step : (x : Bool) (i : ℕ) (r : Option ℕ) → cond x (Some i) r ≡ None → (x ≡ false) × (r ≡ None)
   none_step true i r is = absurd (grind arith)
   none_step false i r is = (refl, is)

@@ -1,5 +1,5 @@
 -- What the check keeps in mind of the ranges of a table: they follow one another. And how two searches for a place are one.
-use Rattle.std.specs.Prelude.{ℕ, ◌≤◌, cond, List, [], ◌∷◌, Some, None, Option, min, nat_le}
+use Rattle.std.specs.Prelude.{ℕ, ◌≤◌, cond, List, [], ◌∷◌, Some, None, Option, min, nat_le, nat_lt}
 use Rattle.stored_tables.specs.declared.definition.StoredDefinition.{StoredDefinition}
 
 -- a range that lies within so many rows
@@ -16,6 +16,15 @@ InOrder rows start (d ∷ ds) = (start ≤ d.row.first) × Placed rows d × InOr
 abbrev pub from_row : ℕ → List StoredDefinition → List StoredDefinition
 from_row row [] = []
 from_row row (d ∷ ds) = cond (nat_le d.row.end row) (from_row row ds) (d ∷ ds)
+
+-- the first of so many rows behind a row from which on a range begins or has ended; their number, where there is none
+abbrev pub bound_behind : ℕ → ℕ → StoredDefinition → ℕ
+bound_behind row rows d = cond (nat_lt row d.row.first) (min d.row.first rows) (cond (nat_lt row d.row.end) (min d.row.end rows) rows)
+
+-- the same for the first of definitions, where there is one
+abbrev pub first_bound : ℕ → ℕ → List StoredDefinition → ℕ
+first_bound row rows [] = rows
+first_bound row rows (d ∷ ds) = bound_behind row rows d
 
 -- the earlier of two places, where there are two
 abbrev pub earlier : Option ℕ → Option ℕ → Option ℕ

@@ -2,7 +2,7 @@
 ghost use Rattle.std.specs.Prelude.{◌≡◌, ◌==◌, length, count_by, take};
 ghost use Rattle.std.specs.List.{list_any};
 ghost use Rattle.stored_tables.specs.Verdict.{first_place, whole_as, misplaced, broken_definition, holds};
-ghost use Rattle.stored_tables.specs.Ranges.{from_row};
+ghost use Rattle.stored_tables.specs.Ranges.{from_row, bound_behind, first_bound};
 
 use crate::definition::StoredDefinition;
 use document::DefinitionKind;
@@ -37,6 +37,21 @@ impl StoredDefinition {
         ensures { result ≡ holds row self.now }
     {
         self.row.first as usize <= row && row < self.row.end as usize
+    }
+
+    // The first of the rows behind this one from which on the range begins or has ended; their number, if there is none.
+    pub fn bound_behind(&self, row: usize, rows: usize) -> usize
+        ensures { result ≡ bound_behind row rows self.now }
+    {
+        let first = self.row.first as usize;
+        let end = self.row.end as usize;
+        if row < first {
+            first.min(rows)
+        } else if row < end {
+            end.min(rows)
+        } else {
+            rows
+        }
     }
 }
 
@@ -91,5 +106,15 @@ pub fn held_by_first(definitions: &[StoredDefinition], row: usize) -> usize
     match definitions {
         [first, ..] if first.holds(row) => 1,
         _ => 0,
+    }
+}
+
+// The same for the first of definitions, where there is one.
+pub fn first_bound(definitions: &[StoredDefinition], row: usize, rows: usize) -> usize
+    ensures { result ≡ first_bound row rows definitions.now }
+{
+    match definitions {
+        [first, ..] => first.bound_behind(row, rows),
+        [] => rows,
     }
 }

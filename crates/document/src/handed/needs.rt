@@ -12,7 +12,6 @@ use super::sets::SelectionSet;
 use crate::fault::DocumentFault;
 use crate::kinds::SelectionKind;
 use crate::rows::SelectionRow;
-use std::iter;
 
 /// Places for a document: in the tables of operations, fragments and rows, in the error list, and for path keys.
 #[derive(Clone, Copy, PartialEq, Eq, Debug)]
@@ -37,18 +36,29 @@ fn fields_beneath(above: usize, row: &SelectionRow) -> usize
 
 impl Document<'_> {
     // The path keys of a set, around which so many fields are open.
+    // Kept, a loop by hand: as the set stands for a forest, each step leads on, and no count of steps is carried along.
+    // Beneath the last row of a set, the loop goes on one level lower, so that a chain costs no call for each of its rows.
     fn path_keys_in_set(&self, set: SelectionSet, above: usize) -> usize
         requires few { length self.now.rows.now ≤ 4096 }
         requires stands { (f : Forest Selection) × Holds self.now.rows.now set f × (above + depth f ≤ 32) }
         ensures { (f : Forest Selection) → Holds self.now.rows.now set f → result ≡ forest_keys above f }
     {
-        let steps = iter::successors(self.next_selection(set), |step| {
-            self.next_selection(step.after)
-        });
         let mut total = 0;
-        for step in steps.take(self.rows.len()) {
-            let beneath = fields_beneath(above, &step.row);
-            total += beneath + self.path_keys_in_set(step.beneath, beneath);
+        let mut rest = set;
+        let mut around = above;
+        while let Some(step) = self.next_selection(rest) {
+            let beneath = fields_beneath(around, &step.row);
+            total += beneath;
+            if step.after.is_empty() {
+                rest = step.beneath;
+                around = beneath;
+            } else {
+                // A row with none beneath it costs no call.
+                if !step.beneath.is_empty() {
+                    total += self.path_keys_in_set(step.beneath, beneath);
+                }
+                rest = step.after;
+            }
         }
         total
     }

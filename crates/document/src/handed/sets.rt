@@ -59,7 +59,7 @@ impl Document<'_> {
 
     /// The next selection of a set, with what stands beneath it and the rest of the set.
     // Kept, no iterator of its own: on rows that were not checked an end may lead a set back to itself, and an iterator
-    // without a bound need not end there. Callers chain the steps by `iter::successors`, with a bound of their own.
+    // without a bound need not end there. Callers know that the rows were checked, or bring a bound of their own.
     pub fn next_selection(&self, set: SelectionSet) -> Option<SelectionStep>
         ensures step { result ≡ next_of self.now.rows.now set }
         ensures forest { (f : Forest Selection) → Holds self.now.rows.now set f → Follows self.now.rows.now set f result }

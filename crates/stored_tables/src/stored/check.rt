@@ -3,12 +3,12 @@ ghost use Rattle.std.specs.Prelude.{◌≡◌, false, map, length, count_by};
 ghost use Rattle.refusal.specs.Firsts.{verdict_of};
 ghost use Rattle.selection_rules.specs.Stored.{stored_view};
 ghost use Rattle.stored_tables.specs.Verdict.{first_place, alone, all_stored, holds, unfit, stray, unfit_in, broken_row, stored_fault, anonymous_broken};
-ghost use Rattle.stored_tables.specs.Ranges.{Placed, InOrder, earlier};
+ghost use Rattle.stored_tables.specs.Ranges.{Placed, InOrder, earlier, first_bound};
 
 use super::StoredDocument;
 use crate::definition::StoredDefinition;
 use crate::fault::StoredFault;
-use crate::ranges::{ending_behind, first_broken, held_by_first};
+use crate::ranges::{ending_behind, first_bound, first_broken, held_by_first};
 use document::{DefinitionKind, MAX_DEPTH};
 use layout::check_range;
 
@@ -49,15 +49,29 @@ impl StoredDocument<'_> {
         }
     }
 
+    // The first of the rows behind this one from which on the anonymous operation's range begins or has ended; their number,
+    // if there is none.
+    fn anonymous_bound(&self, row: usize) -> usize
+        ensures { result ≡ first_bound row (length self.now.rows.now) (alone self.now.anonymous) }
+    {
+        match &self.anonymous {
+            Some(definition) => definition.bound_behind(row, self.rows.len()),
+            None => self.rows.len(),
+        }
+    }
+
     // The first row that is in none of the ranges, or in several. The ranges of each table follow one another.
+    // Kept, a loop by hand: the rows up to the next bound of a range are in the same ranges, and are passed over.
     fn first_stray(&self) -> Option<usize>
         requires operations { InOrder (length self.now.rows.now) 0 self.now.operations.now }
         requires fragments { InOrder (length self.now.rows.now) 0 self.now.fragments.now }
         ensures { result ≡ first_place (stray (all_stored self.now.anonymous self.now.operations.now self.now.fragments.now)) 0 (length self.now.rows.now) }
     {
+        let rows = self.rows.len();
         let mut operations = self.operations;
         let mut fragments = self.fragments;
-        for row in 0..self.rows.len() {
+        let mut row = 0;
+        while row < rows {
             operations = ending_behind(operations, row);
             fragments = ending_behind(fragments, row);
             let ranges = held_by_first(operations, row)
@@ -66,6 +80,9 @@ impl StoredDocument<'_> {
             if ranges != 1 {
                 return Some(row);
             }
+            row = first_bound(operations, row, rows)
+                .min(first_bound(fragments, row, rows))
+                .min(self.anonymous_bound(row));
         }
         None
     }
