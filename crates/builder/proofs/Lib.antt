@@ -1,4 +1,5 @@
 -- The lemmas of the crate, in the order in which they are needed.
+pub mod Paths
 pub mod Puts
 pub mod Outputs
 pub mod Bounds

@@ -21,6 +21,10 @@ put xs n ys = take n xs ++ (ys ++ drop (n + length ys) xs)
 abbrev pub path_of : OpenPath → Path
 path_of p = record { root = p.root; keys = take p.depth p.keys }
 
+-- a path with as many of its keys as are left
+abbrev pub cut_to : ℕ → Path → Path
+cut_to n p = record { root = p.root; keys = take n p.keys }
+
 -- the tables of rows, errors and path keys, and how many places of each are filled
 pub record Output : Type 0 where
   pub rows : List StoredRow

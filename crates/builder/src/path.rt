@@ -9,7 +9,8 @@ use document::{SelectionKind, SelectionRow};
 use selection_rules::{ExecutableDefinitionName, SelectionPath, response_key};
 
 /// An open path: as many of the keys are in use as fields are open.
-// Kept: an array with a depth beside it, since a builder has no heap, and a path is copied at each selection.
+// Kept: an array with a depth beside it, since a builder has no heap. One path is lent all the way down, and each set leaves it
+// as it was.
 #[derive(Clone, Copy)]
 pub struct OpenPath {
     root: ExecutableDefinitionName,
@@ -19,7 +20,7 @@ pub struct OpenPath {
 }
 
 impl OpenPath {
-    ghost use Rattle.builder.specs.Filling.{put, path_of};
+    ghost use Rattle.builder.specs.Filling.{put, path_of, cut_to};
 
     // The path of a definition's own set.
     pub fn start(root: ExecutableDefinitionName) -> OpenPath
@@ -33,27 +34,41 @@ impl OpenPath {
         }
     }
 
-    // The path of a selection, and of what stands beneath it: a field opens its key.
-    pub fn entering(self, row: &SelectionRow) -> OpenPath
-        requires { self.depth < 32 }
-        ensures path { path_of result ≡ path_to (path_of self) (selection_of row.now) }
-        ensures depth { result.depth ≡ way self.depth (selection_of row.now) }
+    // How many fields are open.
+    pub fn depth(&self) -> usize
+        ensures { result ≡ self.now.depth }
     {
-        let mut path = self;
+        self.depth
+    }
+
+    // Goes on to a selection, and to what stands beneath it: a field opens its key.
+    pub fn enter(&mut self, row: &SelectionRow)
+        requires { self.old.depth < 32 }
+        ensures path { path_of self.new ≡ path_to (path_of self.old) (selection_of row.now) }
+        ensures depth { self.new.depth ≡ way self.old.depth (selection_of row.now) }
+    {
         if row.selection_kind() == Some(SelectionKind::Field) {
-            path.keys[path.depth] = response_key(row);
-            path.depth += 1;
+            self.keys[self.depth] = response_key(row);
+            self.depth += 1;
         }
-        path
+    }
+
+    // Goes back to where fewer fields were open.
+    pub fn leave(&mut self, depth: usize)
+        requires { depth ≤ self.old.depth }
+        ensures path { path_of self.new ≡ cut_to depth (path_of self.old) }
+        ensures depth { self.new.depth ≡ depth }
+    {
+        self.depth = depth;
     }
 
     // Writes the open keys into the table, from the place `at` on, and tells the path that stands there.
-    pub fn write(self, path_keys: &mut [u32], at: usize) -> SelectionPath
-        requires room { at + self.depth ≤ length path_keys.old }
-        requires few { at + self.depth ≤ 131072 }
-        ensures keys { path_keys.new ≡ put path_keys.old at (path_of self).keys }
-        ensures path { result ≡ path_at at (path_of self) }
-        ensures count { length (path_of self).keys ≡ self.depth }
+    pub fn write(&self, path_keys: &mut [u32], at: usize) -> SelectionPath
+        requires room { at + self.now.depth ≤ length path_keys.old }
+        requires few { at + self.now.depth ≤ 131072 }
+        ensures keys { path_keys.new ≡ put path_keys.old at (path_of self.now).keys }
+        ensures path { result ≡ path_at at (path_of self.now) }
+        ensures count { length (path_of self.now).keys ≡ self.now.depth }
     {
         let end = at + self.depth;
         path_keys[at..end].copy_from_slice(&self.keys[0..self.depth]);

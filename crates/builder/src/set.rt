@@ -3,10 +3,11 @@ ghost use Rattle.std.specs.Prelude.{◌≡◌, ℕ, ◌+◌, ◌<◌, ◌≤◌,
 ghost use Rattle.layout.specs.Forest.{Forest, none};
 ghost use Rattle.document.specs.Rows.{Selection, selection_of};
 ghost use Rattle.document.specs.Sets.{Holds};
+ghost use Rattle.document.specs.Needs.{way};
 ghost use Rattle.selection_rules.specs.declared.stored.StoredRow.{StoredRow};
 ghost use Rattle.selection_rules.specs.Errors.{Path, path_at, error_row};
 ghost use Rattle.selection_rules.specs.Stored.{stored_in, stored_row};
-ghost use Rattle.selection_rules.specs.Sets.{settled_in, error_of, build, errors as errors-of};
+ghost use Rattle.selection_rules.specs.Sets.{path_to, settled_in, error_of, build, errors as errors-of};
 ghost use Rattle.builder.specs.Filling.{path_of, output, with_set, Room};
 
 use crate::filled::Filled;
@@ -51,22 +52,29 @@ fn selection_error(
     }
 }
 
-// Lists the error of a selection with a fault; the path is that of the selection itself.
+// Lists the error of a selection with a fault. The path handed over is that of the set, and is so again at the end; the path
+// that is listed is that of the selection itself.
 fn list_fault(
     fault: SelectionFault,
-    path: OpenPath,
+    path: &mut OpenPath,
     around: u32,
     row: &SelectionRow,
     errors: &mut [BuildError],
     path_keys: &mut [u32],
     filled: Filled,
 ) -> Filled
+    requires shallow { path.old.depth < 32 }
     requires errors_fit { filled.errors < length errors.old }
-    requires keys_fit { filled.path_keys + path.depth ≤ length path_keys.old }
-    requires keys_few { filled.path_keys + path.depth ≤ 131072 }
-    ensures { (rows : List StoredRow) → output rows errors.new path_keys.new result ≡ with_set (output rows errors.old path_keys.old filled) none (error_of fault (path_of path) around (selection_of row.now) ∷ []) }
+    requires keys_fit { filled.path_keys + way path.old.depth (selection_of row.now) ≤ length path_keys.old }
+    requires keys_few { filled.path_keys + way path.old.depth (selection_of row.now) ≤ 131072 }
+    ensures listed { (rows : List StoredRow) → output rows errors.new path_keys.new result ≡ with_set (output rows errors.old path_keys.old filled) none (error_of fault (path_to (path_of path.old) (selection_of row.now)) around (selection_of row.now) ∷ []) }
+    ensures path { path_of path.new ≡ path_of path.old }
+    ensures depth { path.new.depth ≡ path.old.depth }
 {
+    let depth = path.depth();
+    path.enter(row);
     let at = path.write(path_keys, filled.path_keys);
+    path.leave(depth);
     errors[filled.errors] = selection_error(fault, at, around, row);
     Filled {
         rows: filled.rows,
@@ -102,7 +110,8 @@ fn open_in(row: &SelectionRow, place: u32, inner: u32) -> StoredRow
     StoredRow::open(row, place, set_type)
 }
 
-// Builds a set in the type around it. The tables have room for all that it can store and list.
+// Builds a set in the type around it. The tables have room for all that it can store and list. The path is that of the set,
+// and is so again at the end.
 // Kept: three lent tables and a count of what is filled, side by side. A struct of `&mut` slices is no plainer: each
 // function would have to promise of each slice that it is still the same one. And a loop over the steps of a set: a
 // chain of them would need a bound, and the tables change at each step.
@@ -111,15 +120,18 @@ pub fn build_set<S: Schema>(
     document: &Document<'_>,
     set: SelectionSet,
     around: u32,
-    path: OpenPath,
+    path: &mut OpenPath,
     rows: &mut [StoredRow],
     errors: &mut [BuildError],
     path_keys: &mut [u32],
     filled: Filled,
 ) -> Filled
-    requires room { (f : Forest Selection) × Room document.now.rows.now set path.depth (output rows.old errors.old path_keys.old filled) f }
-    ensures { (f : Forest Selection) → Holds document.now.rows.now set f → output rows.new errors.new path_keys.new result ≡ with_set (output rows.old errors.old path_keys.old filled) (build (S.Schema.meaning schema.now) around f) (errors-of (S.Schema.meaning schema.now) (path_of path) around f) }
+    requires room { (f : Forest Selection) × Room document.now.rows.now set path.old.depth (output rows.old errors.old path_keys.old filled) f }
+    ensures built { (f : Forest Selection) → Holds document.now.rows.now set f → output rows.new errors.new path_keys.new result ≡ with_set (output rows.old errors.old path_keys.old filled) (build (S.Schema.meaning schema.now) around f) (errors-of (S.Schema.meaning schema.now) (path_of path.old) around f) }
+    ensures path { path_of path.new ≡ path_of path.old }
+    ensures depth { path.new.depth ≡ path.old.depth }
 {
+    let depth = path.depth();
     let mut done = filled;
     let mut rest = set;
     while let Some(step) = document.next_selection(rest) {
@@ -133,33 +145,27 @@ pub fn build_set<S: Schema>(
                 let at = done.rows;
                 rows[at] = open_in(&row, place, inner);
                 done.rows += 1;
-                // Nothing is built beneath a leaf, and no path is copied for it.
+                // Nothing is built beneath a leaf.
                 if !is_leaf {
+                    path.enter(&row);
                     done = build_set(
                         schema,
                         document,
                         step.beneath,
                         inner,
-                        path.entering(&row),
+                        path,
                         rows,
                         errors,
                         path_keys,
                         done,
                     );
+                    path.leave(depth);
                 }
                 rows[at].selection.end = done.rows as u32;
             }
             Settled::Dropped => {}
             Settled::Faulty(fault) => {
-                done = list_fault(
-                    fault,
-                    path.entering(&row),
-                    around,
-                    &row,
-                    errors,
-                    path_keys,
-                    done,
-                );
+                done = list_fault(fault, path, around, &row, errors, path_keys, done);
             }
         }
         rest = step.after;

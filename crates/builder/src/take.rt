@@ -91,13 +91,13 @@ fn take_definition<S: Schema>(
         return next;
     };
     let first = next.filled.rows;
-    let path = OpenPath::start(root_name_of(row));
+    let mut path = OpenPath::start(root_name_of(row));
     next.filled = build_set(
         schema,
         document,
         set,
         set_type,
-        path,
+        &mut path,
         rows,
         errors,
         path_keys,

@@ -1,4 +1,4 @@
 -- Lemmas, by topic.
-pub mod Turns
+pub mod Rows
 pub mod Matches
 pub mod Ready

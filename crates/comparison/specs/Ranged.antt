@@ -1,39 +1,22 @@
 -- What the comparison asks of two tables, once both documents are checked: that rows are those of a forest, and that the
 -- slots are the index of the names.
-use Rattle.std.specs.Prelude.{ℕ, ◌+◌, ◌<◌, ◌≤◌, List, map, length, All, Some, None, Option, slice_index_or}
+use Rattle.std.specs.Prelude.{ℕ, ◌≤◌, List, map, length, All, Some, None, Option}
 use Rattle.ordered_index.specs.Keys.{same_name, name_hash}
 use Rattle.ordered_index.specs.Sound.{Sound}
 use Rattle.layout.specs.Forest.{Forest}
-use Rattle.layout.specs.Shapes.{Stand, forest_in}
+use Rattle.layout.specs.Shapes.{Stand}
 use Rattle.selection_rules.specs.declared.stored.StoredRow.{StoredRow}
-use Rattle.selection_rules.specs.Stored.{Stored, stored_of, stored_selections}
+use Rattle.selection_rules.specs.Stored.{Stored, stored_selections}
 use Rattle.stored_tables.specs.declared.definition.StoredDefinition.{StoredDefinition}
 use Rattle.stored_tables.specs.Layout.{name_of}
-use Rattle.stored_tables.specs.Verdict.{no_stored_row}
 use Rattle.finished_tables.specs.declared.indexed.IndexedDocument.{IndexedDocument}
 use Rattle.comparison.specs.declared.tables.DefinitionTable.{DefinitionTable}
-use Rattle.finished_rules.specs.SameTables.{SameStored, SameSets}
-
-abbrev pub row_at : List StoredRow → ℕ → StoredRow
-row_at rows k = slice_index_or rows k no_stored_row
 
 -- the rows from i up to e are those of a forest
 pub record Ranged (rows : List StoredRow) (i e : ℕ) : Type 0 where
   pub within : e ≤ length rows
   pub forest : Forest Stored
   pub stand : Stand stored_selections rows i e forest
-
--- so are the rows beneath the row k
-pub record Rooted (rows : List StoredRow) (k : ℕ) : Type 0 where
-  pub above : k < (row_at rows k).selection.end
-  pub beneath : Ranged rows (k + 1) (row_at rows k).selection.end
-
--- two rows are the same, each with the set beneath it
-pub record SameAt (rows : List StoredRow) (k : ℕ) (others : List StoredRow) (j : ℕ) : Type 0 where
-  pub row : SameStored (stored_of (row_at rows k)) (stored_of (row_at others j))
-  pub beneath :
-      SameSets (forest_in stored_selections rows (k + 1) (row_at rows k).selection.end)
-      (forest_in stored_selections others (j + 1) (row_at others j).selection.end)
 
 -- the rows in the range of a definition are those of a forest
 abbrev pub RangedIn : List StoredRow → StoredDefinition → Type 0

@@ -54,7 +54,7 @@ overflow_cast-next g c =
     let f = c.requires.ready.0 in
     let ready = c.requires.ready.1 in
     let few = set_few m (path_of c.start-path.result) c.in-Some.set_type f in
-    let count = ap (λ (o : Output). o.filled.rows) (c.build_set-next.ensures f ready.holds) in
+    let count = ap (λ (o : Output). o.filled.rows) (c.build_set-next.ensures.built f ready.holds) in
     let low : c.build_set-next.result.rows ≤ 16384 = omega (arith, ready.space.rows_few) in
     search rules
 
@@ -70,7 +70,7 @@ returns-clause-taken g c f holds =
     let b = c.build_set-next in
     let ready : Ready a.document.now.rows.now a.set d h = subst (λ (x : Forest Selection). Ready a.document.now.rows.now a.set (handed_in (head_of a.row.now) x a.strict) h) (same_set _ _ _ _ c.requires.ready.1.holds holds) c.requires.ready.1 in
     let o : Output = output b.new.rows b.new.errors b.new.path_keys b.result in
-    let done = built m h d t _ l.new.errors l.result c.root_name_of.result (path_of c.start-path.result) o e.errors l.ensures.listed l.ensures.counted c.root_name_of.ensures c.start-path.ensures.path ready.space (b.ensures f holds) in
+    let done = built m h d t _ l.new.errors l.result c.root_name_of.result (path_of c.start-path.result) o e.errors l.ensures.listed l.ensures.counted c.root_name_of.ensures c.start-path.ensures.path ready.space (b.ensures.built f holds) in
     let whole : c.new-definition.result ≡ place m h d t = c.new-definition.ensures ∙ ap (λ (x : Output). stored_definition (head_of a.row.now) a.progress.filled.rows x.filled.rows t) done in
     c.keep_definition.ensures.kept b.new.rows b.new.errors b.new.path_keys
     ∙ ap (λ (x : StoredDefinition). store_as (role_of (stored_head x)) (held_with h o c.rule_on-ruling.result.multiple_anonymous) x) whole
