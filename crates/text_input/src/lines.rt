@@ -1,5 +1,6 @@
 // The typed lines, and how each is read from its words after the keyword.
 use crate::problems::Problem;
+use crate::word_list::Member::{Named, Number};
 use crate::word_list::Words;
 use document::{DefinitionRow, SelectionRow};
 use line_order::{DocumentHead, Keyword, SchemaChoice, TableHead};
@@ -64,32 +65,30 @@ fn read_schema<'a>(words: &mut Words<'_, 'a>) -> Result<SchemaChoice<TableHead>,
 
 /// `NTYPES NFIELDS QUERY MUTATION SUBSCRIPTION`
 fn read_head<'a>(words: &mut Words<'_, 'a>) -> Result<TableHead, Problem<'a>> {
+    let [types, fields, query, mutation, subscription] = words.members(&[
+        Number, Number, Named, Named, Named,
+    ])?;
     Ok(TableHead {
-        types: words.number()?,
-        fields: words.number()?,
+        types,
+        fields,
         roots: RootTypes {
-            query: words.name()?,
-            mutation: words.name()?,
-            subscription: words.name()?,
+            query,
+            mutation,
+            subscription,
         },
     })
 }
 
 /// `NAME KIND`
 fn read_type<'a>(words: &mut Words<'_, 'a>) -> Result<TypeRow, Problem<'a>> {
-    Ok(TypeRow {
-        name: words.name()?,
-        kind: words.number()?,
-    })
+    let [name, kind] = words.members(&[Named, Number])?;
+    Ok(TypeRow { name, kind })
 }
 
 /// `OWNER NAME INNER`
 fn read_field<'a>(words: &mut Words<'_, 'a>) -> Result<FieldRow, Problem<'a>> {
-    Ok(FieldRow {
-        owner: words.name()?,
-        name: words.name()?,
-        inner: words.name()?,
-    })
+    let [owner, name, inner] = words.members(&[Named, Named, Named])?;
+    Ok(FieldRow { owner, name, inner })
 }
 
 /// `NUMBER TEXT`
@@ -135,9 +134,7 @@ fn read_operation<'a>(words: &mut Words<'_, 'a>) -> Result<OperationType, Proble
 
 /// `STRICT NDEFS NROWS`
 fn read_document<'a>(words: &mut Words<'_, 'a>) -> Result<DocumentHead, Problem<'a>> {
-    let strict = words.number()?;
-    let definitions = words.number()?;
-    let rows = words.number()?;
+    let [strict, definitions, rows] = words.members(&[Number, Number, Number])?;
     if strict > 1 {
         return Err(Problem::UnknownStrictness(strict));
     }
@@ -150,33 +147,16 @@ fn read_document<'a>(words: &mut Words<'_, 'a>) -> Result<DocumentHead, Problem<
 
 /// `KIND OPTYPE NAME CONDITION VARIABLES DIRECTIVES LOCATION NAMELOC CONDLOC FIRST END`
 fn read_definition<'a>(words: &mut Words<'_, 'a>) -> Result<DefinitionRow, Problem<'a>> {
-    Ok(DefinitionRow {
-        kind: words.number()?,
-        operation_type: words.number()?,
-        name: words.name()?,
-        condition: words.name()?,
-        variables: words.number()?,
-        directives: words.number()?,
-        location: words.number()?,
-        name_location: words.number()?,
-        condition_location: words.number()?,
-        first: words.number()?,
-        end: words.number()?,
-    })
+    let members = words.members(&[
+        Number, Number, Named, Named, Number, Number, Number, Number, Number, Number, Number,
+    ])?;
+    Ok(DefinitionRow::from(members))
 }
 
 /// `KIND NAME ALIAS CONDITION ARGUMENTS DIRECTIVES LOCATION NAMELOC CONDLOC END`
 fn read_row<'a>(words: &mut Words<'_, 'a>) -> Result<SelectionRow, Problem<'a>> {
-    Ok(SelectionRow {
-        kind: words.number()?,
-        name: words.name()?,
-        alias: words.name()?,
-        condition: words.name()?,
-        arguments: words.number()?,
-        directives: words.number()?,
-        location: words.number()?,
-        name_location: words.number()?,
-        condition_location: words.number()?,
-        end: words.number()?,
-    })
+    let members = words.members(&[
+        Number, Named, Named, Named, Number, Number, Number, Number, Number, Number,
+    ])?;
+    Ok(SelectionRow::from(members))
 }

@@ -5,6 +5,13 @@ use schema::Name;
 use std::num::IntErrorKind;
 use std::str::SplitWhitespace;
 
+/// What a word writes: a number, or a name by its number or its text.
+#[derive(Clone, Copy)]
+pub enum Member {
+    Number,
+    Named,
+}
+
 /// The words of a line that are still to be read, and the names that they can tell; a comment is none of the words.
 #[derive(Drop)]
 pub struct Words<'n, 'a> {
@@ -61,6 +68,21 @@ impl<'n, 'a> Words<'n, 'a> {
             return read_number(word);
         }
         self.names.name_of(word).ok_or(Problem::UnknownName(word))
+    }
+
+    /// The next words, as many members of a row.
+    pub fn members<const N: usize>(
+        &mut self,
+        kinds: &[Member; N],
+    ) -> Result<[u32; N], Problem<'a>> {
+        let mut members = [0; N];
+        for (member, kind) in members.iter_mut().zip(kinds.iter()) {
+            *member = match kind {
+                Member::Number => self.number()?,
+                Member::Named => self.name()?,
+            };
+        }
+        Ok(members)
     }
 
     /// Refuses words that are left over.
