@@ -43,80 +43,51 @@ impl fmt::Display for Shown<'_, '_, Listed<'_>> {
 /// What is wrong, as `Meter has no field gas`.
 impl fmt::Display for Shown<'_, '_, BuildError> {
     fn fmt<W: fmt::Write>(&self, f: &mut fmt::Formatter<W>) -> fmt::Result {
-        let names = self.names;
+        let ErrorNumbers {
+            kind,
+            first_name,
+            second_name,
+            second_location,
+            ..
+        } = self.value.numbers();
+        let name = self.names.show(first_name);
+        let second = self.names.show(second_name);
         match self.value {
-            BuildError::TypeSystemDefinition { name: 0, kind, .. } => {
+            BuildError::TypeSystemDefinition { name: 0, .. } => {
                 write!(f, "there is a type system definition (kind {kind})")
             }
-            BuildError::TypeSystemDefinition { name, kind, .. } => {
-                let name = names.show(name);
+            BuildError::TypeSystemDefinition { .. } => {
                 write!(f, "{name} is a type system definition (kind {kind})")
             }
             BuildError::AmbiguousAnonymousOperation { .. } => {
                 write!(f, "an anonymous operation is not the only operation")
             }
-            BuildError::OperationNameCollision {
-                name,
-                previous_location,
-                ..
-            } => {
-                let name = names.show(name);
+            BuildError::OperationNameCollision { .. } => {
                 write!(
                     f,
-                    "an operation at {previous_location} is named {name} already"
+                    "an operation at {second_location} is named {name} already"
                 )
             }
-            BuildError::FragmentNameCollision {
-                name,
-                previous_location,
-                ..
-            } => {
-                let name = names.show(name);
-                write!(
-                    f,
-                    "a fragment at {previous_location} is named {name} already"
-                )
+            BuildError::FragmentNameCollision { .. } => {
+                write!(f, "a fragment at {second_location} is named {name} already")
             }
             BuildError::UndefinedRootOperation { operation_type, .. } => {
                 let operations = Operations(operation_type);
                 write!(f, "the schema has no root of {operations}")
             }
-            BuildError::UndefinedTypeInNamedFragmentTypeCondition {
-                type_name,
-                fragment_name,
-                ..
-            } => {
-                let type_name = names.show(type_name);
-                let fragment_name = names.show(fragment_name);
-                write!(
-                    f,
-                    "fragment {fragment_name} is on {type_name}, which is no known type"
-                )
+            BuildError::UndefinedTypeInNamedFragmentTypeCondition { .. } => {
+                write!(f, "fragment {second} is on {name}, which is no known type")
             }
-            BuildError::UndefinedTypeInInlineFragmentTypeCondition { type_name, .. } => {
-                let type_name = names.show(type_name);
-                write!(
-                    f,
-                    "an inline fragment is on {type_name}, which is no known type"
-                )
+            BuildError::UndefinedTypeInInlineFragmentTypeCondition { .. } => {
+                write!(f, "an inline fragment is on {name}, which is no known type")
             }
-            BuildError::SubselectionOnScalarType { type_name, .. } => {
-                let type_name = names.show(type_name);
-                write!(f, "there are selections on the scalar {type_name}")
+            BuildError::SubselectionOnScalarType { .. } => {
+                write!(f, "there are selections on the scalar {name}")
             }
-            BuildError::SubselectionOnEnumType { type_name, .. } => {
-                let type_name = names.show(type_name);
-                write!(f, "there are selections on the enum {type_name}")
+            BuildError::SubselectionOnEnumType { .. } => {
+                write!(f, "there are selections on the enum {name}")
             }
-            BuildError::UndefinedField {
-                type_name,
-                field_name,
-                ..
-            } => {
-                let type_name = names.show(type_name);
-                let field_name = names.show(field_name);
-                write!(f, "{type_name} has no field {field_name}")
-            }
+            BuildError::UndefinedField { .. } => write!(f, "{name} has no field {second}"),
         }
     }
 }

@@ -3,7 +3,6 @@ use crate::answers::Answered;
 use crate::printer::Printer;
 use crate::refusals::Refused;
 use crate::sections::{Reading, Section};
-use crate::shown::Shown;
 use schema::{OpenSchema, Question, Schema, ask};
 use std::alloc::{AllocError, Global};
 use table_schema::{MakeFault, SchemaFault, schema_with_meta_fields};
@@ -42,11 +41,7 @@ impl<'n, 'a> Printer<'n, 'a> {
                 self.accepted(&OpenSchema, section)?;
             }
             SchemaChoice::Table(table) => {
-                let heading = Shown {
-                    names: self.names,
-                    value: table,
-                };
-                self.line(format_args!("Schema {number}: {heading}"))?;
+                self.heading(number, table)?;
                 self.table(table, section)?;
             }
         }
