@@ -111,9 +111,46 @@ impl SelectionRow {
     {
         SelectionKind::try_from(self.kind).ok()
     }
+
+    /// The members, in the order of the format.
+    pub fn numbers(&self) -> [u32; 10]
+        ensures { result ≡ selection_numbers self.now }
+    {
+        [
+            self.kind,
+            self.name,
+            self.alias,
+            self.condition,
+            self.arguments,
+            self.directives,
+            self.location,
+            self.name_location,
+            self.condition_location,
+            self.end,
+        ]
+    }
 }
 
 impl DefinitionRow {
+    /// The members, in the order of the format.
+    pub fn numbers(&self) -> [u32; 11]
+        ensures { result ≡ definition_numbers self.now }
+    {
+        [
+            self.kind,
+            self.operation_type,
+            self.name,
+            self.condition,
+            self.variables,
+            self.directives,
+            self.location,
+            self.name_location,
+            self.condition_location,
+            self.first,
+            self.end,
+        ]
+    }
+
     /// What the definition is, if its kind is one.
     pub fn definition_kind(&self) -> Option<DefinitionKind>
         ensures { result ≡ definition_kind self.now.kind }

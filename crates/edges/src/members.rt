@@ -44,21 +44,8 @@ pub fn definition_from(numbers: [u32; 12]) -> StoredDefinition {
 }
 
 pub fn definition_numbers(definition: &StoredDefinition) -> [u32; 12] {
-    let row = definition.row;
-    [
-        row.kind,
-        row.operation_type,
-        row.name,
-        row.condition,
-        row.variables,
-        row.directives,
-        row.location,
-        row.name_location,
-        row.condition_location,
-        row.first,
-        row.end,
-        definition.set_type,
-    ]
+    let [a, b, c, d, e, f, g, h, i, j, k] = definition.row.numbers();
+    [a, b, c, d, e, f, g, h, i, j, k, definition.set_type]
 }
 
 pub fn row_from(numbers: [u32; 12]) -> StoredRow {
@@ -71,21 +58,8 @@ pub fn row_from(numbers: [u32; 12]) -> StoredRow {
 }
 
 pub fn row_numbers(row: &StoredRow) -> [u32; 12] {
-    let selection = row.selection;
-    [
-        selection.kind,
-        selection.name,
-        selection.alias,
-        selection.condition,
-        selection.arguments,
-        selection.directives,
-        selection.location,
-        selection.name_location,
-        selection.condition_location,
-        selection.end,
-        row.place,
-        row.set_type,
-    ]
+    let [a, b, c, d, e, f, g, h, i, j] = row.selection.numbers();
+    [a, b, c, d, e, f, g, h, i, j, row.place, row.set_type]
 }
 
 /// What an error carries: code, location, operation type, kind, two names, a second location, and of its path the root's

@@ -1,5 +1,4 @@
 // Errors, stored definitions and stored rows as lines of numbers.
-use document::{DefinitionRow, SelectionRow};
 use selection_rules::{BuildError, ErrorNumbers, StoredRow};
 use std::fmt;
 use stored_tables::StoredDefinition;
@@ -60,35 +59,9 @@ pub struct DefinitionLine(pub StoredDefinition);
 impl fmt::Display for DefinitionLine {
     fn fmt<W: fmt::Write>(&self, f: &mut fmt::Formatter<W>) -> fmt::Result {
         let StoredDefinition { row, set_type } = self.0;
-        let DefinitionRow {
-            kind,
-            operation_type,
-            name,
-            condition,
-            variables,
-            directives,
-            location,
-            name_location,
-            condition_location,
-            first,
-            end,
-        } = row;
-        let members = [
-            kind,
-            operation_type,
-            name,
-            condition,
-            variables,
-            directives,
-            location,
-            name_location,
-            condition_location,
-            first,
-            end,
-            set_type,
-        ];
+        let members = row.numbers();
         let members = Numbers(&members);
-        write!(f, "{members}")
+        write!(f, "{members} {set_type}")
     }
 }
 
@@ -103,33 +76,8 @@ impl fmt::Display for RowLine {
             place,
             set_type,
         } = self.0;
-        let SelectionRow {
-            kind,
-            name,
-            alias,
-            condition,
-            arguments,
-            directives,
-            location,
-            name_location,
-            condition_location,
-            end,
-        } = selection;
-        let members = [
-            kind,
-            name,
-            alias,
-            condition,
-            arguments,
-            directives,
-            location,
-            name_location,
-            condition_location,
-            end,
-            place,
-            set_type,
-        ];
+        let members = selection.numbers();
         let members = Numbers(&members);
-        write!(f, "{members}")
+        write!(f, "{members} {place} {set_type}")
     }
 }
