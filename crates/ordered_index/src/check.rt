@@ -1,5 +1,5 @@
 // Whether slots that are handed back are a sound index of the entries beside them.
-ghost use Rattle.std.specs.Prelude.{◌≡◌, ℕ, ◌≤◌, map, nat_eq, Decides, slice_index};
+ghost use Rattle.std.specs.Prelude.{◌≡◌, ℕ, ◌<◌, ◌^◌, ◌≤◌, map, nat_eq, Decides, slice_index};
 ghost use Rattle.std.specs.Int.{IsPowerOfTwo};
 ghost use Rattle.std.specs.List.{list_all, enumerate_from};
 ghost use Rattle.std.specs.Option.{option_eq};
@@ -25,9 +25,10 @@ fn all_within(slots: &[u32], most: usize) -> bool
 
 // How many slots are in use.
 fn count_used(slots: &[u32]) -> usize
+    requires { used slots.now < 2 ^ 64 }
     ensures { result ≡ used slots.now }
 {
-    slots.iter().filter(|s| **s > 0).count()
+    slots.iter().map(|s| usize::from(*s > 0)).sum()
 }
 
 // Whether each entry is found at its own place.

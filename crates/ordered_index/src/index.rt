@@ -84,10 +84,7 @@ pub fn enter_after<E: Entry>(entries: &[E], count: usize, slots: &mut [u32], key
     ensures sound { Sound E.Of.eq E.Of.digest (keys_of E.keyed count entries.now) slots.old → Sound E.Of.eq E.Of.digest (keys_after (keys_of E.keyed count entries.now) result key.now) slots.new }
 {
     if count > entries.len() {
-        return match find(entries, slots, key) {
-            Some(n) => Entered::Present(n),
-            None => Entered::Full,
-        };
+        return find(entries, slots, key).map_or(Entered::Full, Entered::Present);
     }
     enter(&entries[..count], slots, key)
 }
