@@ -68,8 +68,8 @@ impl Outside {
         self.document.answer(heap, line)?.ok_or(Fault::BadLine)
     }
 
-    // Answers a line, or the section that begins with it: over the open schema, over the schema of the rows by itself, or over
-    // that schema with the meta-fields.
+    // Answers a line, or the section that begins with it: over the open schema or the schema of the rows, by itself or with the
+    // meta-fields. These stand above the schema of the rows where that is lent, or own it.
     fn go_on(
         &mut self,
         rt: &HostRuntime,
@@ -80,12 +80,20 @@ impl Outside {
         let document = &mut self.document;
         match line.keyword {
             "open" => run_section(rt, &OpenSchema, document, rest, report),
+            "open_layer" => {
+                let layer = MetaLayer { lower: OpenSchema };
+                run_section(rt, &layer, document, rest, report)
+            }
             "plain" => {
                 let schema = self.schema.made(rt.alloc())?;
                 run_section(rt, &schema, document, rest, report)
             }
             "table" => {
                 let lower = &self.schema.made(rt.alloc())?;
+                run_section(rt, &MetaLayer { lower }, document, rest, report)
+            }
+            "table_by_value" => {
+                let lower = self.schema.made(rt.alloc())?;
                 run_section(rt, &MetaLayer { lower }, document, rest, report)
             }
             _ => {
