@@ -1,5 +1,5 @@
 // Whether slots that are handed back are a sound index of the entries beside them.
-ghost use Rattle.std.specs.Prelude.{◌≡◌, ℕ, ◌<◌, ◌^◌, ◌≤◌, map, nat_eq, Decides, slice_index};
+ghost use Rattle.std.specs.Prelude.{◌≡◌, ℕ, ◌≤◌, map, nat_eq, Decides, slice_index};
 ghost use Rattle.std.specs.Int.{IsPowerOfTwo};
 ghost use Rattle.std.specs.List.{list_all, enumerate_from};
 ghost use Rattle.std.specs.Option.{option_eq};
@@ -24,8 +24,8 @@ fn all_within(slots: &[u32], most: usize) -> bool
 }
 
 // How many slots are in use.
+#[tactic(auto, using(crate::proofs::Used::few))]
 fn count_used(slots: &[u32]) -> usize
-    requires { used slots.now < 2 ^ 64 }
     ensures { result ≡ used slots.now }
 {
     slots.iter().map(|s| usize::from(*s > 0)).sum()

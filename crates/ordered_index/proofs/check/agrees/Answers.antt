@@ -1,6 +1,5 @@
 -- The five tests together decide whether the slots are a sound index.
-use Rattle.std.proofs.Common.{◌≡◌, ℕ, ◌≤◌, true, map, length, get_or, nat_lt, sym, ◌∙◌, arith}
-use Rattle.std.proofs.lemmas.List.Sums.{count_by-le-length}
+use Rattle.std.proofs.Common.{◌≡◌, ℕ, ◌≤◌, true, map, length, get_or, sym, ◌∙◌, arith}
 use Rattle.std.proofs.lemmas.List.{length-map}
 use Rattle.std.proofs.lemmas.Bool.{false≢true, eqb-true, leb-true}
 use Rattle.std.specs.Int.{IsPowerOfTwo}
@@ -38,6 +37,3 @@ returns-then-count_used-entries g c =
           (λ n x low. found_met equal digest keys slots (get_or keys n x) n (each_placed g.E.Entry.keyed equal digest entries slots (sym c.each_found.ensures ∙ all) n x low)),
       λ sound. c.each_found.ensures ∙ all_placed g.E.Entry.keyed equal digest entries slots (λ n x low. met_found equal digest laws keys slots (get_or keys n x) n (sound_met equal digest laws keys slots sound n x low)),
     )
-
-pub count_used-requires : goal.count_used-requires
-count_used-requires g c = omega (arith, count_by-le-length (nat_lt 0) c.args.slots.now)
