@@ -134,7 +134,7 @@ impl DocumentText {
     }
 
     // `DEFINITION STEPS`: the places of the selections of a set, found from the definition's own set by so many steps, each
-    // to what stands beneath the first selection.
+    // to what stands beneath the first selection. Each selection is to come with the row that stands in its place.
     fn selections(&self, heap: Global, line: &Line<'_>) -> Result<Answer, Fault> {
         let [definition, steps] = line.numbers::<2>()?;
         let document = self.handed();
@@ -147,6 +147,10 @@ impl DocumentText {
             let Some(step) = document.next_selection(set) else {
                 break;
             };
+            let row = self.rows.get(step.place).ok_or(Fault::BadLine)?;
+            if step.row.numbers() != row.numbers() {
+                return Ok(Answer::Word("another row"));
+            }
             places.push(number_of(step.place))?;
             set = step.after;
         }

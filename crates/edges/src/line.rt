@@ -66,8 +66,16 @@ pub fn number(word: &str) -> Result<u32, Fault> {
 }
 
 /// The number that `START`, `START+STEP` or `START+STEP/EVERY` comes to in this turn: the step is added in every turn, or
-/// in each so manieth.
+/// in each so manieth. `A|B|..` are such numbers by turns, each of which counts its own.
 pub fn number_at(text: &str, turn: u32) -> Result<u32, Fault> {
+    let count = number_of(text.split('|').count());
+    let round = turn.checked_div(count).ok_or(Fault::BadLine)?;
+    let place = turn.checked_rem(count).ok_or(Fault::BadLine)? as usize;
+    stepped(text.split('|').nth(place).ok_or(Fault::BadLine)?, round)
+}
+
+// One of these numbers.
+fn stepped(text: &str, turn: u32) -> Result<u32, Fault> {
     let (start, step) = text.split_once('+').unwrap_or((text, "0"));
     let (step, every) = step.split_once('/').unwrap_or((step, "1"));
     let turns = turn.checked_div(number(every)?).ok_or(Fault::BadLine)?;

@@ -1,9 +1,9 @@
 // Reads cases from the standard input, line by line, each with the answer that the library is to give, and tells each line
 // that is answered in another way, and how many answers there were. A line is `KEYWORD [xTIMES] WORDS [=> ANSWER]`.
 //
-// `line` takes a line apart, `answer` says what can come of it, and `report` compares. `schemas`, `documents` and `names` hold
-// rows, slots and an index of their own; `section` has two desks over one schema: each `desk` is a builder with its tables,
-// which `damage` changes, `walks` walks over, and `runs` sends a script.
+// `line` takes a line apart, `answer` says what can come of it, and `report` compares. `schemas`, `documents` and `index` hold
+// rows, slots and an index of their own, which `entries` stand in; `section` has two desks over one schema: each `desk` is a
+// builder with its tables, which `damage` changes, `walks` walks over, and `runs` sends a script.
 #![tactic(auto)]
 
 mod answer;
@@ -11,9 +11,10 @@ mod asking;
 mod damage;
 mod desk;
 mod documents;
+mod entries;
+mod index;
 mod line;
 mod members;
-mod names;
 mod report;
 mod runs;
 mod schemas;
@@ -22,8 +23,9 @@ mod walks;
 
 use answer::{Answer, Fault};
 use documents::DocumentText;
+use entries::{Named, Owned};
+use index::IndexDesk;
 use line::Line;
-use names::IndexDesk;
 use report::Report;
 use schema::{MetaLayer, OpenSchema};
 use schemas::SchemaDesk;
@@ -37,7 +39,8 @@ use std::str::Lines;
 #[derive(Drop)]
 struct Outside {
     schema: SchemaDesk,
-    index: IndexDesk,
+    names: IndexDesk<Named>,
+    owned: IndexDesk<Owned>,
     document: DocumentText,
 }
 
@@ -45,7 +48,8 @@ impl Outside {
     fn new(heap: Global) -> Outside {
         Outside {
             schema: SchemaDesk::new(heap),
-            index: IndexDesk::new(heap),
+            names: IndexDesk::new(heap),
+            owned: IndexDesk::new(heap),
             document: DocumentText::new(heap),
         }
     }
@@ -54,14 +58,18 @@ impl Outside {
         if let Some(answer) = self.schema.answer(heap, line)? {
             return Ok(answer);
         }
-        if let Some(answer) = self.index.answer(heap, line)? {
+        if let Some(answer) = self.names.answer(heap, line)? {
             return Ok(answer);
+        }
+        if let Some(keyword) = line.keyword.strip_prefix("owned_") {
+            let line = Line { keyword, ..*line };
+            return self.owned.answer(heap, &line)?.ok_or(Fault::BadLine);
         }
         self.document.answer(heap, line)?.ok_or(Fault::BadLine)
     }
 
-    // Answers a line, or the section that begins with it: over the open schema, over the schema of the rows by itself, or over
-    // that schema with the meta-fields.
+    // Answers a line, or the section that begins with it: over the open schema or the schema of the rows, by itself or with the
+    // meta-fields. These stand above the schema of the rows where that is lent, or own it.
     fn go_on(
         &mut self,
         rt: &HostRuntime,
@@ -72,12 +80,20 @@ impl Outside {
         let document = &mut self.document;
         match line.keyword {
             "open" => run_section(rt, &OpenSchema, document, rest, report),
+            "open_layer" => {
+                let layer = MetaLayer { lower: OpenSchema };
+                run_section(rt, &layer, document, rest, report)
+            }
             "plain" => {
                 let schema = self.schema.made(rt.alloc())?;
                 run_section(rt, &schema, document, rest, report)
             }
             "table" => {
                 let lower = &self.schema.made(rt.alloc())?;
+                run_section(rt, &MetaLayer { lower }, document, rest, report)
+            }
+            "table_by_value" => {
+                let lower = self.schema.made(rt.alloc())?;
                 run_section(rt, &MetaLayer { lower }, document, rest, report)
             }
             _ => {

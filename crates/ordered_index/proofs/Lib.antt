@@ -7,3 +7,4 @@ pub mod Adds
 pub mod Powers
 pub mod Enters
 pub mod Firsts
+pub mod Used

@@ -1,5 +1,5 @@
 -- What entering a key comes to, and what the tables hold then.
-use Rattle.std.specs.Prelude.{ℕ, ◌+◌, Bool, cond, ◌&&◌, List, [], ◌∷◌, ◌++◌, length, Some, None, Option, nat_lt, slice_set}
+use Rattle.std.specs.Prelude.{ℕ, ◌+◌, Bool, cond, ◌&&◌, List, [], ◌∷◌, ◌++◌, length, Some, None, Option, nat_le, nat_lt, slice_set}
 use Rattle.ordered_index.specs.Slots.{limit}
 use Rattle.ordered_index.specs.declared.probe.Probed.{Probed}
 use Rattle.ordered_index.specs.declared.probe.Probed.TheVariants.{Found, Vacant, Round}
@@ -10,7 +10,11 @@ use Rattle.ordered_index.specs.declared.index.Entered.TheVariants.{Present, Adde
 abbrev pub enter_room : {E : Type 0} → List E → List ℕ → Bool
 enter_room entries slots = nat_lt (length entries) (limit slots)
 
--- the same after the first `count` entries of a table, which has that place too
+-- whether the key may take the place after the first `count` entries, all of which the table has
+abbrev pub room_after : {E : Type 0} → List E → ℕ → List ℕ → Bool
+room_after entries count slots = nat_le count (length entries) && nat_lt count (limit slots)
+
+-- the same, and the table has that place too
 abbrev pub insert_room : {E : Type 0} → List E → ℕ → List ℕ → Bool
 insert_room entries count slots = nat_lt count (length entries) && nat_lt count (limit slots)
 

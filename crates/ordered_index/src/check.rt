@@ -24,10 +24,11 @@ fn all_within(slots: &[u32], most: usize) -> bool
 }
 
 // How many slots are in use.
+#[tactic(auto, using(crate::proofs::Used::few))]
 fn count_used(slots: &[u32]) -> usize
     ensures { result ≡ used slots.now }
 {
-    slots.iter().filter(|s| **s > 0).count()
+    slots.iter().map(|s| usize::from(*s > 0)).sum()
 }
 
 // Whether each entry is found at its own place.

@@ -4,7 +4,7 @@ ghost use Rattle.std.specs.Int.{IsPowerOfTwo};
 ghost use Rattle.ordered_index.specs.Slots.{limit};
 ghost use Rattle.ordered_index.specs.Sound.{Sound, Located, keys_of};
 ghost use Rattle.ordered_index.specs.Probing.{probe_for, found_at};
-ghost use Rattle.ordered_index.specs.Entering.{entered, present, slots_after, entries_after, keys_after, count_after, enter_room, insert_room};
+ghost use Rattle.ordered_index.specs.Entering.{entered, present, slots_after, entries_after, keys_after, count_after, enter_room, room_after, insert_room};
 
 use crate::key::{Entry, Key};
 use crate::probe::{Probed, probe};
@@ -72,6 +72,21 @@ pub fn enter<E: Entry>(entries: &[E], slots: &mut [u32], key: &E::Of) -> Entered
         }
         Probed::Round => Entered::Full,
     }
+}
+
+// The same with a count beside the entries: gives the key the place after the first `count` of them, unless one of these has
+// it. Where there are fewer, that place is none, and a new key is not entered.
+pub fn enter_after<E: Entry>(entries: &[E], count: usize, slots: &mut [u32], key: &E::Of) -> Entered
+    ensures answer { result ≡ entered (probe_for E.Of.eq E.Of.digest (keys_of E.keyed count entries.now) slots.old key.now) (room_after entries.now count slots.old) count }
+    ensures slots { slots.new ≡ slots_after (probe_for E.Of.eq E.Of.digest (keys_of E.keyed count entries.now) slots.old key.now) result slots.old }
+    ensures located { Sound E.Of.eq E.Of.digest (keys_of E.keyed count entries.now) slots.old → Located E.Of.eq (keys_of E.keyed count entries.now) key.now (present result) }
+    ensures full { Sound E.Of.eq E.Of.digest (keys_of E.keyed count entries.now) slots.old → result ≡ Entered.Full → room_after entries.now count slots.old ≡ false }
+    ensures sound { Sound E.Of.eq E.Of.digest (keys_of E.keyed count entries.now) slots.old → Sound E.Of.eq E.Of.digest (keys_after (keys_of E.keyed count entries.now) result key.now) slots.new }
+{
+    if count > entries.len() {
+        return find(entries, slots, key).map_or(Entered::Full, Entered::Present);
+    }
+    enter(&entries[..count], slots, key)
 }
 
 // Puts the entry after the first `count` entries, unless one of them has its key.

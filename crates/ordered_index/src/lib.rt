@@ -13,6 +13,6 @@ mod keys;
 mod probe;
 
 pub use check::agrees;
-pub use index::{Entered, empty, enter, find, in_use, insert};
+pub use index::{Entered, empty, enter, enter_after, find, in_use, insert};
 pub use key::{Entry, Key};
 pub use keys::TypeField;

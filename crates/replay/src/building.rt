@@ -69,16 +69,17 @@ fn print_equal<S: Schema>(
     }
 }
 
-// Builds each side over the schema, whichever it is, and compares them where there are two.
+// Builds each side over the schema, whichever it is, and compares the last two. No more than two are kept, since the tables of
+// each are large.
 fn print_sides<S: Schema>(rt: &HostRuntime, schema: &S, sides: &[Side]) -> io::Result<()> {
-    let mut finished = Vec::new(rt.alloc());
+    let mut first = None;
+    let mut second = None;
     for (number, side) in sides.iter().enumerate() {
         println!(rt; "side {number}")?;
         if let Some(side) = print_side(rt, schema, side)? {
-            finished.push(side)?;
+            first = second.replace(side);
         }
     }
-    let (second, first) = (finished.pop(), finished.pop());
     if let (Some(mut first), Some(mut second)) = (first, second) {
         print_equal(rt, &mut first, &mut second)?;
     }
