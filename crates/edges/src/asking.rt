@@ -40,7 +40,8 @@ pub fn asked<S: Schema>(heap: Global, schema: &S, line: &Line<'_>) -> Result<Tol
         return Ok(Told::Word("another answer where it is borrowed"));
     }
     if let Question::Field(type_name, field_name) = question {
-        if !is_known_alike(schema, type_name, field_name) {
+        let is_known = answer != Answer::Field(Err(FieldLookupError::NoSuchType));
+        if !is_known_alike(schema, type_name, field_name, is_known) {
             return Ok(Told::Word("another answer where the type is asked for"));
         }
     }
@@ -63,10 +64,15 @@ fn field(heap: Global, found: Result<FieldDefinition, FieldLookupError>) -> Resu
     }
 }
 
-// Whether a field, the type, and the type asked of the schema borrowed are answered alike as to whether the type is known.
-fn is_known_alike<S: Schema>(schema: &S, type_name: Name, field_name: Name) -> bool {
+// Whether it is told alike that the type is known, or that it is not: by the field, by the type, and by the schema borrowed.
+fn is_known_alike<S: Schema>(
+    schema: &S,
+    type_name: Name,
+    field_name: Name,
+    is_known: bool,
+) -> bool {
     let borrowed = &schema;
-    let is_known = schema.knows(type_name);
     knows_by_field(schema, type_name, field_name) == is_known
+        && schema.knows(type_name) == is_known
         && ask(borrowed, Question::Known(type_name)) == Answer::Known(is_known)
 }

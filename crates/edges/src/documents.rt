@@ -1,6 +1,6 @@
 // The document that is handed over, and what it says of itself.
 use crate::answer::{Answer, Fault};
-use crate::line::{Line, cut, members, number, number_at, number_of};
+use crate::line::{Line, cut, members, number, number_at, number_of, place};
 use crate::members::{DEFINITION, ROW, definition_from, definition_numbers, row_from, row_numbers};
 use document::{
     DefinitionKind, DefinitionRow, Document, SelectionKind, SelectionRow, SelectionSet,
@@ -136,10 +136,10 @@ impl DocumentText {
     // `DEFINITION STEPS`: the places of the selections of a set, found from the definition's own set by so many steps, each
     // to what stands beneath the first selection. Each selection is to come with the row that stands in its place.
     fn selections(&self, heap: Global, line: &Line<'_>) -> Result<Answer, Fault> {
-        let [definition, steps] = line.numbers::<2>()?;
+        let (definition, steps) = cut(line.words);
         let document = self.handed();
-        let mut set = document.selections(definition as usize);
-        for _ in 0..steps {
+        let mut set = document.selections(place(definition)?);
+        for _ in 0..number(steps)? {
             set = beneath_first(&document, set);
         }
         let mut places = Vec::new(heap);

@@ -2,7 +2,7 @@
 use crate::answer::{Answer, Fault};
 use crate::entries::IndexEntry;
 use crate::line::{Line, cut, number, number_at, number_of};
-use ordered_index::{Entered, agrees, empty, enter_after, find, in_use, insert};
+use ordered_index::{Entered, agrees, agrees_in_use, empty, enter_after, find, in_use, insert};
 use std::alloc::Global;
 
 /// Entries, how many of them are in use, and the slots of their index.
@@ -207,8 +207,8 @@ impl<E: IndexEntry> IndexDesk<E> {
 
     // `COUNT`: whether the slots are a sound index of so many entries.
     fn is_sound(&self, line: &Line<'_>) -> Result<Answer, Fault> {
-        let used = in_use(self.entries.as_slice(), number(line.words)? as usize);
-        if agrees(used, self.slots.as_slice()) {
+        let count = number(line.words)? as usize;
+        if agrees_in_use(self.entries.as_slice(), count, self.slots.as_slice()) {
             Ok(Answer::Word("yes"))
         } else {
             Ok(Answer::Word("no"))

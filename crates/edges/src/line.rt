@@ -57,6 +57,14 @@ pub fn number_of(count: usize) -> u32 {
     u32::try_from(count).unwrap_or(u32::MAX)
 }
 
+/// The place that is written in digits, of 64 bits.
+pub fn place(word: &str) -> Result<usize, Fault> {
+    match word.parse::<usize>() {
+        Ok(place) => Ok(place),
+        Err(_) => Err(Fault::BadLine),
+    }
+}
+
 /// The number that is written in digits.
 pub fn number(word: &str) -> Result<u32, Fault> {
     match word.parse::<u32>() {

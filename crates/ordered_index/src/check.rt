@@ -4,10 +4,10 @@ ghost use Rattle.std.specs.Int.{IsPowerOfTwo};
 ghost use Rattle.std.specs.List.{list_all, enumerate_from};
 ghost use Rattle.std.specs.Option.{option_eq};
 ghost use Rattle.ordered_index.specs.Slots.{used};
-ghost use Rattle.ordered_index.specs.Sound.{Sound};
+ghost use Rattle.ordered_index.specs.Sound.{Sound, keys_of};
 ghost use Rattle.ordered_index.specs.Probing.{probe_for, found_at};
 
-use crate::index::{find, limit_of};
+use crate::index::{find, in_use, limit_of};
 use crate::key::{Entry, Key};
 
 fn power_of_two(n: usize) -> bool
@@ -50,4 +50,11 @@ pub fn agrees<E: Entry>(entries: &[E], slots: &[u32]) -> bool
         && all_within(slots, entries.len())
         && count_used(slots) == entries.len()
         && each_found(entries, slots)
+}
+
+// Whether the slots are a sound index of the first `count` entries: `agrees` for a table with a count beside it.
+pub fn agrees_in_use<E: Entry>(entries: &[E], count: usize, slots: &[u32]) -> bool
+    ensures { Decides result (Sound E.Of.eq E.Of.digest (keys_of E.keyed count entries.now) slots.now) }
+{
+    agrees(in_use(entries, count), slots)
 }

@@ -12,7 +12,7 @@ mod key;
 mod keys;
 mod probe;
 
-pub use check::agrees;
+pub use check::{agrees, agrees_in_use};
 pub use index::{Entered, empty, enter, enter_after, find, in_use, insert};
 pub use key::{Entry, Key};
 pub use keys::TypeField;
